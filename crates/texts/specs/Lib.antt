@@ -2,9 +2,3 @@ pub mod Outcomes
 pub mod Layers
 pub mod Refusals
 pub mod Stocks
-pub mod Pools
-pub mod Places
-pub mod Dictionaries
-pub mod Buckets
-pub mod Held
-pub mod Makings

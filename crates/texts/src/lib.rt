@@ -1,6 +1,3 @@
-// Texts by number, and the stocks that hold their bytes.
-pub mod dictionary;
-pub mod pool;
+// Texts by number, what a stock of them means, and how a refusal is told.
 pub mod refusal;
-mod slot;
 pub mod stock;

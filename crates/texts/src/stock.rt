@@ -51,7 +51,7 @@ pub enum StockFault {
 
 impl StockFault {
     // Why a put of so many bytes is refused, where it is.
-    pub(crate) fn of_put(len: usize) -> StockFault
+    pub fn of_put(len: usize) -> StockFault
         ensures { λ r. ⌜ r ≡ fault-of-put len ⌝ }
     {
         if len > LONGEST {

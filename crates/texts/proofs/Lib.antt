@@ -1,7 +1,0 @@
-pub mod Pools
-pub mod Places
-pub mod Slots
-pub mod Chains
-pub mod Grows
-pub mod Held
-pub mod Dictionaries
