@@ -1,4 +1,4 @@
--- A line's words, and the mark at the front of a word.
+-- Cutting bytes at the first byte that ends a part, the words of a line, and the mark at the front of a word.
 use mathlib.Core.Path.{_≡_, refl, sym, ap, _∙_}
 use mathlib.Core.Bool.{true, false, cond, not}
 use mathlib.Core.Logic.{⊎-elim}
@@ -10,7 +10,7 @@ use lib.ListN.{length, take, drop, getD}
 use Rattle.std.proofs.shelf.Lists.{take-all, take-more, drop-more, drop-all}
 use Rattle.std.proofs.shelf.Tests.{eq-eqb, ne-eqb, eqb-true, ltb-true, and-parts, and-from, cases-bool, not-from-false}
 use Rattle.std.specs.declared.option.Option.the-variants.{Some, None}
-use Rattle.session.specs.Lines.{past-mark, first-word, more-words, tail, no-space, unspaced, Cuts-words, Space-at, One-word}
+use Rattle.session.specs.Lines.{past-mark, front, behind, first-word, more-words, tail, lacks, unspaced, Cuts-words, End-at, Endless}
 
 pub marked : (mark : ℕ) (word : List ℕ) → 1 ≤ length word → getD word 0 0 ≡ mark → Some (take (length word - 1) (drop 1 word)) ≡ past-mark mark word
 marked mark [] some first = absurd (omega arith)
@@ -20,20 +20,21 @@ pub unspaced-append : (cs ds : List ℕ) → unspaced cs ≡ true → unspaced d
 unspaced-append [] ds front back = back
 unspaced-append (c ∷ cs) ds front back = and-from (ltb 32 c) _ (and-parts (ltb 32 c) (unspaced cs) front .0) (unspaced-append cs ds (and-parts (ltb 32 c) (unspaced cs) front .1) back)
 
--- a line is its first word and the rest
-pub rejoined : (line : List ℕ) → line ≡ first-word line ++ tail (more-words line)
-rejoined [] = refl
-rejoined (c ∷ cs) = ⊎-elim
-    (λ (yea : eqb c 32 ≡ true). ap (λ d. d ∷ cs) (eqb-true c 32 yea) ∙ ap (λ b. cond b [] (c ∷ first-word cs) ++ tail (cond b (Some cs) (more-words cs))) (sym yea))
-    (λ (nay : eqb c 32 ≡ false). ap (λ xs. c ∷ xs) (rejoined cs) ∙ ap (λ b. cond b [] (c ∷ first-word cs) ++ tail (cond b (Some cs) (more-words cs))) (sym nay))
-    (cases-bool (eqb c 32))
+-- bytes are what stands before the first `end`, and the rest
+module _ (end : ℕ) where
+  pub rejoined : (bytes : List ℕ) → bytes ≡ front end bytes ++ tail end (behind end bytes)
+  rejoined [] = refl
+  rejoined (c ∷ cs) = ⊎-elim
+      (λ (yea : eqb c end ≡ true). ap (λ d. d ∷ cs) (eqb-true c end yea) ∙ ap (λ b. cond b [] (c ∷ front end cs) ++ tail end (cond b (Some cs) (behind end cs))) (sym yea))
+      (λ (nay : eqb c end ≡ false). ap (λ xs. c ∷ xs) (rejoined cs) ∙ ap (λ b. cond b [] (c ∷ front end cs) ++ tail end (cond b (Some cs) (behind end cs))) (sym nay))
+      (cases-bool (eqb c end))
 
-pub word-whole : (line : List ℕ) → no-space (first-word line) ≡ true
-word-whole [] = refl
-word-whole (c ∷ cs) = ⊎-elim
-    (λ (yea : eqb c 32 ≡ true). ap (λ b. no-space (cond b [] (c ∷ first-word cs))) yea)
-    (λ (nay : eqb c 32 ≡ false). ap (λ b. no-space (cond b [] (c ∷ first-word cs))) nay ∙ and-from (not (eqb c 32)) _ (not-from-false (eqb c 32) nay) (word-whole cs))
-    (cases-bool (eqb c 32))
+  pub front-lacks : (bytes : List ℕ) → lacks end (front end bytes) ≡ true
+  front-lacks [] = refl
+  front-lacks (c ∷ cs) = ⊎-elim
+      (λ (yea : eqb c end ≡ true). ap (λ b. lacks end (cond b [] (c ∷ front end cs))) yea)
+      (λ (nay : eqb c end ≡ false). ap (λ b. lacks end (cond b [] (c ∷ front end cs))) nay ∙ and-from (not (eqb c end)) _ (not-from-false (eqb c end) nay) (front-lacks cs))
+      (cases-bool (eqb c end))
 
 -- a byte above the space is none
 above : (c : ℕ) (cs : List ℕ) → unspaced (c ∷ cs) ≡ true → eqb c 32 ≡ false
@@ -56,33 +57,34 @@ word-then (c ∷ cs) rest is =
 pub cuts-words : Cuts-words
 cuts-words = record { last = last-word; first = word-then }
 
--- a walk to the first space: no space before i
-abbrev pub Passed : List ℕ → ℕ → Type 0
-Passed line i = (first-word line ≡ take i line ++ first-word (drop i line)) × (more-words line ≡ more-words (drop i line))
+-- a walk to the first `end`: there is none before i
+abbrev pub Passed : ℕ → List ℕ → ℕ → Type 0
+Passed end bytes i = (front end bytes ≡ take i bytes ++ front end (drop i bytes)) × (behind end bytes ≡ behind end (drop i bytes))
 
-module _ (line : List ℕ) (i : ℕ) (passed : Passed line i) where
-  pub space-here : i < length line → getD line i 0 ≡ 32 → Space-at line i
-  space-here lt is =
-      let left : drop i line ≡ 32 ∷ drop (i + 1) line = drop-more line i 0 lt ∙ ap (λ c. c ∷ drop (i + 1) line) is in
+module _ (end : ℕ) (bytes : List ℕ) (i : ℕ) (passed : Passed end bytes i) where
+  pub end-here : i < length bytes → getD bytes i 0 ≡ end → End-at end bytes i
+  end-here lt is =
+      let left : drop i bytes ≡ getD bytes i 0 ∷ drop (i + 1) bytes = drop-more bytes i 0 lt in
+      let yea : eqb (getD bytes i 0) end ≡ true = eq-eqb _ _ is in
       record {
         within = lt;
-        word = passed .0 ∙ ap (λ xs. take i line ++ first-word xs) left ∙ append-nil (take i line);
-        more = passed .1 ∙ ap more-words left;
+        before = passed .0 ∙ ap (λ xs. take i bytes ++ front end xs) left ∙ ap (λ b. take i bytes ++ cond b [] (getD bytes i 0 ∷ front end (drop (i + 1) bytes))) yea ∙ append-nil (take i bytes);
+        after = passed .1 ∙ ap (behind end) left ∙ ap (λ b. cond b (Some (drop (i + 1) bytes)) (behind end (drop (i + 1) bytes))) yea;
       }
 
-  pub space-later : i < length line → (getD line i 0 ≡ 32 → ⊥) → Passed line (i + 1)
-  space-later lt other =
-      let c : ℕ = getD line i 0 in
-      let cs : List ℕ = drop (i + 1) line in
-      let nay : eqb c 32 ≡ false = ne-eqb c 32 other in (
-        passed .0 ∙ ap (λ xs. take i line ++ first-word xs) (drop-more line i 0 lt) ∙ ap (λ b. take i line ++ cond b [] (c ∷ first-word cs)) nay ∙ sym (append-assoc (take i line) (c ∷ []) (first-word cs)) ∙ ap (λ xs. xs ++ first-word cs) (sym (take-more line i 0 lt)),
-        passed .1 ∙ ap more-words (drop-more line i 0 lt) ∙ ap (λ b. cond b (Some cs) (more-words cs)) nay,
+  pub end-later : i < length bytes → (getD bytes i 0 ≡ end → ⊥) → Passed end bytes (i + 1)
+  end-later lt other =
+      let c : ℕ = getD bytes i 0 in
+      let cs : List ℕ = drop (i + 1) bytes in
+      let nay : eqb c end ≡ false = ne-eqb c end other in (
+        passed .0 ∙ ap (λ xs. take i bytes ++ front end xs) (drop-more bytes i 0 lt) ∙ ap (λ b. take i bytes ++ cond b [] (c ∷ front end cs)) nay ∙ sym (append-assoc (take i bytes) (c ∷ []) (front end cs)) ∙ ap (λ xs. xs ++ front end cs) (sym (take-more bytes i 0 lt)),
+        passed .1 ∙ ap (behind end) (drop-more bytes i 0 lt) ∙ ap (λ b. cond b (Some cs) (behind end cs)) nay,
       )
 
-  pub space-nowhere : length line ≤ i → One-word line
-  space-nowhere past =
-      let left : drop i line ≡ [] = drop-all i line past in
+  pub end-nowhere : length bytes ≤ i → Endless end bytes
+  end-nowhere past =
+      let left : drop i bytes ≡ [] = drop-all i bytes past in
       record {
-        word = passed .0 ∙ ap (λ xs. take i line ++ first-word xs) left ∙ append-nil (take i line) ∙ take-all i line past;
-        more = passed .1 ∙ ap more-words left;
+        before = passed .0 ∙ ap (λ xs. take i bytes ++ front end xs) left ∙ append-nil (take i bytes) ∙ take-all i bytes past;
+        after = passed .1 ∙ ap (behind end) left;
       }

@@ -1,4 +1,4 @@
--- Lines of words, with a space between two of them.
+-- Lines of a text, and words of a line: what stands before the byte that ends one, and what stands behind it.
 use mathlib.Core.Path.{_≡_}
 use mathlib.Core.Bool.{Bool, true, cond, not, _&&_}
 use mathlib.Core.List.{List, [], _∷_, _++_}
@@ -13,41 +13,55 @@ abbrev pub unspaced : List ℕ → Bool
 unspaced [] = true
 unspaced (c ∷ cs) = ltb 32 c && unspaced cs
 
--- a line's first word: what stands before the first space
+-- what stands before the first byte `end`
+abbrev pub front : ℕ → List ℕ → List ℕ
+front end [] = []
+front end (c ∷ cs) = cond (eqb c end) [] (c ∷ front end cs)
+
+-- what follows the first byte `end`, if there is one
+abbrev pub behind : ℕ → List ℕ → Option (List ℕ)
+behind end [] = None
+behind end (c ∷ cs) = cond (eqb c end) (Some cs) (behind end cs)
+
+-- a line's first word stands before the first space, and its other words behind it
 abbrev pub first-word : List ℕ → List ℕ
-first-word [] = []
-first-word (c ∷ cs) = cond (eqb c 32) [] (c ∷ first-word cs)
+first-word line = front 32 line
 
--- what follows the first space, if there is one
 abbrev pub more-words : List ℕ → Option (List ℕ)
-more-words [] = None
-more-words (c ∷ cs) = cond (eqb c 32) (Some cs) (more-words cs)
+more-words line = behind 32 line
 
--- the space and what follows it, or nothing
-abbrev pub tail : Option (List ℕ) → List ℕ
-tail None = []
-tail (Some cs) = 32 ∷ cs
+-- the first line of a text stands before the first line feed, and its other lines behind it
+abbrev pub first-line : List ℕ → List ℕ
+first-line text = front 10 text
 
--- the space is not among the bytes
-abbrev pub no-space : List ℕ → Bool
-no-space [] = true
-no-space (c ∷ cs) = not (eqb c 32) && no-space cs
+abbrev pub more-lines : List ℕ → Option (List ℕ)
+more-lines text = behind 10 text
+
+-- the byte `end` and what follows it, or nothing
+abbrev pub tail : ℕ → Option (List ℕ) → List ℕ
+tail end None = []
+tail end (Some cs) = end ∷ cs
+
+-- the byte `end` is not among the bytes
+abbrev pub lacks : ℕ → List ℕ → Bool
+lacks end [] = true
+lacks end (c ∷ cs) = not (eqb c end) && lacks end cs
 
 -- a line that was put together of words is cut into the same words
 pub record Cuts-words : Type 0 where
   pub last : (word : List ℕ) → unspaced word ≡ true → (first-word word ≡ word) × (more-words word ≡ None)
   pub first : (word more : List ℕ) → unspaced word ≡ true → (first-word (word ++ 32 ∷ more) ≡ word) × (more-words (word ++ 32 ∷ more) ≡ Some more)
 
--- the first space stands at a place of the line
-pub record Space-at (line : List ℕ) (at : ℕ) : Type 0 where
-  pub within : at < length line
-  pub word : first-word line ≡ take at line
-  pub more : more-words line ≡ Some (drop (at + 1) line)
+-- the first byte `end` stands at a place
+pub record End-at (end : ℕ) (bytes : List ℕ) (at : ℕ) : Type 0 where
+  pub within : at < length bytes
+  pub before : front end bytes ≡ take at bytes
+  pub after : behind end bytes ≡ Some (drop (at + 1) bytes)
 
--- the line has no space
-pub record One-word (line : List ℕ) : Type 0 where
-  pub word : first-word line ≡ line
-  pub more : more-words line ≡ None
+-- there is no byte `end`
+pub record Endless (end : ℕ) (bytes : List ℕ) : Type 0 where
+  pub before : front end bytes ≡ bytes
+  pub after : behind end bytes ≡ None
 
 -- what follows the mark that a word begins with
 abbrev pub past-mark : ℕ → List ℕ → Option (List ℕ)

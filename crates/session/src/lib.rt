@@ -20,6 +20,7 @@ pub use fault::WordFaultDebug;
 pub use fault::WordFaultFromAlloc;
 pub use fault::WordFaultFromRefused;
 pub use fault::WordFaultPartialEq;
+pub use line::cut_line;
 pub use line::cut_word;
 pub use number_word::read_flag;
 pub use number_word::read_float;
