@@ -39,7 +39,6 @@ module _ (size : ℕ) (ts : List (List ℕ)) (bs : List ℕ) where
   pub walk-ends : (at : Option ℕ) → at ≡ None → Walk size ts bs at → None ≡ place-of ts bs
   walk-ends at e w = sym (narrow-none (λ t. sameBytes t bs) (λ t. eqb (bucket-of size t) (bucket-of size bs)) wider (take (w .seen) ts) (sym (w .at-latest) ∙ e)) ∙ w .same-place
 
-
   -- the text that a walk stands at
   pub record Stands (i : ℕ) : Type 0 where
     pub below : i < length ts

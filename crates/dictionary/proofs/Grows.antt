@@ -89,27 +89,27 @@ module _ (size : ℕ) (ts : List (List ℕ)) (t : List ℕ) where
   heads-grow heads b right long is k lt =
       ⊎-elim
       (λ (e : k ≡ b). let here : k < length heads = omega arith in
-        ap (λ n. getD (set heads b (Some (length ts))) n None) e
-        ∙ getD-set-same heads b (Some (length ts)) None (omega arith)
-        ∙ sym (latest-push k ∙ ap (λ c. cond c (Some (length ts)) (latest size k ts)) (eq-eqb _ _ (sym (e ∙ is)))))
+      ap (λ n. getD (set heads b (Some (length ts))) n None) e
+      ∙ getD-set-same heads b (Some (length ts)) None (omega arith)
+      ∙ sym (latest-push k ∙ ap (λ c. cond c (Some (length ts)) (latest size k ts)) (eq-eqb _ _ (sym (e ∙ is)))))
       (λ (ne : k ≡ b → ⊥).
-        getD-set-other heads b k (Some (length ts)) None ne
-        ∙ right k lt
-        ∙ sym (latest-push k ∙ ap (λ c. cond c (Some (length ts)) (latest size k ts)) (ne-eqb _ _ (λ e. ne (sym (is ∙ e))))))
+      getD-set-other heads b k (Some (length ts)) None ne
+      ∙ right k lt
+      ∙ sym (latest-push k ∙ ap (λ c. cond c (Some (length ts)) (latest size k ts)) (ne-eqb _ _ (λ e. ne (sym (is ∙ e))))))
       (cases-eq k b)
 
   pub links-grow : (ss : List Slot) (s : Slot) → Links-right size ss ts → length ss ≡ length ts → s .next ≡ latest size (bucket-of size t) ts → Links-right size (ss ++ s ∷ []) (ts ++ t ∷ [])
   links-grow ss s right long next i d lt =
       ⊎-elim
       (λ (below : i < length ss).
-        ap (λ (r : Slot). r .next) (getD-append-left ss (s ∷ []) d i below)
-        ∙ right i d below
-        ∙ ap (λ u. latest size (bucket-of size u) (take i ts)) (sym (getD-append-left ts (t ∷ []) [] i (omega arith)))
-        ∙ ap (latest size (bucket-of size (getD (ts ++ t ∷ []) i []))) (sym (take-append-le i ts (t ∷ []) (omega arith))))
+      ap (λ (r : Slot). r .next) (getD-append-left ss (s ∷ []) d i below)
+      ∙ right i d below
+      ∙ ap (λ u. latest size (bucket-of size u) (take i ts)) (sym (getD-append-left ts (t ∷ []) [] i (omega arith)))
+      ∙ ap (latest size (bucket-of size (getD (ts ++ t ∷ []) i []))) (sym (take-append-le i ts (t ∷ []) (omega arith))))
       (λ (past : length ss ≤ i).
-        let here : length ss ≡ i = omega (arith, length-append ss (s ∷ [])) in
-        ap (λ (r : Slot). r .next) (getD-push ss s d i here)
-        ∙ next
-        ∙ ap (λ u. latest size (bucket-of size u) ts) (sym (getD-push ts t [] i (omega arith)))
-        ∙ ap (latest size (bucket-of size (getD (ts ++ t ∷ []) i []))) (sym (take-at ts (t ∷ []) i (omega arith))))
+      let here : length ss ≡ i = omega (arith, length-append ss (s ∷ [])) in
+      ap (λ (r : Slot). r .next) (getD-push ss s d i here)
+      ∙ next
+      ∙ ap (λ u. latest size (bucket-of size u) ts) (sym (getD-push ts t [] i (omega arith)))
+      ∙ ap (latest size (bucket-of size (getD (ts ++ t ∷ []) i []))) (sym (take-at ts (t ∷ []) i (omega arith))))
       (cases-lt i (length ss))

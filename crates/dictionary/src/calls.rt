@@ -14,16 +14,16 @@ ghost use Rattle.texts.specs.Outcomes.{Came};
 ghost use Rattle.texts.specs.Stocks.{Put};
 use crate::Dictionary;
 use crate::buckets::bucket;
+use crate::slot::Slot;
+use std::alloc::Global;
 use texts::refusal::Unmade;
 use texts::refusal::UnmadeFromAlloc;
-use crate::slot::Slot;
 use texts::stock::LONGEST;
 use texts::stock::MOST_BYTES;
 use texts::stock::Stock;
 use texts::stock::StockFault;
 use texts::stock::Text;
 use texts::stock::WellKnown;
-use std::alloc::Global;
 
 // The most entries.
 pub const MOST_ENTRIES: usize = 65_536;
@@ -82,11 +82,7 @@ fn begin(
 
 impl Dictionary {
     // A dictionary that uses at most `bytes` bytes and `entries` entries, with the well-known texts in it.
-    pub fn new(
-        heap: Global,
-        bytes: usize,
-        entries: usize,
-    ) -> Result<Dictionary, Unmade<StockFault>>
+    pub fn new(heap: Global, bytes: usize, entries: usize) -> Result<Dictionary, Unmade<StockFault>>
         ensures { λ r. ⌜ Dictionary-made bytes entries r ⌝ }
     {
         let limit = bytes.min(MOST_BYTES);
@@ -146,9 +142,7 @@ impl Dictionary {
     fn has_room(&self, len: usize) -> bool
         ensures { λ r. ⌜ r ≡ fits-beside (now (self .entry) .limit) (vec-len (now (self .entry) .heads)) (vec-len (now (self .entry) .area)) (vec-len (now (self .entry) .slots)) len ⌝ }
     {
-        len <= LONGEST
-            && self.slots.len() < self.heads.len()
-            && len <= self.limit - self.area.len()
+        len <= LONGEST && self.slots.len() < self.heads.len() && len <= self.limit - self.area.len()
     }
 
     fn fits(&self, bytes: &[u8]) -> bool

@@ -9,6 +9,7 @@ ghost use Rattle.texts.specs.Stocks.{Put};
 ghost use Rattle.pool.specs.Pools.{start-of, length-of, pool-texts, pool-room, pool-put};
 ghost use Rattle.pool.specs.Makings.{Pool-made};
 use crate::Pool;
+use std::alloc::Global;
 use texts::refusal::Unmade;
 use texts::refusal::UnmadeFromAlloc;
 use texts::stock::LONGEST;
@@ -17,7 +18,6 @@ use texts::stock::Stock;
 use texts::stock::StockFault;
 use texts::stock::Text;
 use texts::stock::WellKnown;
-use std::alloc::Global;
 
 // Where a text starts in the pool.
 fn start_of(text: Text) -> usize

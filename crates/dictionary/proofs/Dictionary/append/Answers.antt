@@ -92,20 +92,43 @@ ghost-self c =
     let lt : c .bucket-which .result < vec-len (d .heads) = omega (arith, c .bucket-which .ensures .below, c .len .ensures) in
     let s : Slot = record { start = c .len-2 .result; len = length bs; next = c .index .result .now } in
     let start : s .start ≡ vec-len (d .area) = c .len-2 .ensures in
-    let next : s .next ≡ latest (vec-len (d .heads)) (bucket-of (vec-len (d .heads)) bs) (texts-in d) = head-read d bs (c .bucket-which .result) (c .index .result .now) lt b (c .index .ensures) in
-    (omega (arith, area .len, f .bytes, d .whole),
-    (omega (arith, area .capacity, d .reserved),
-    (d .few,
-    (omega (arith, slots .len, f .entry, slots-long d),
-    (omega (arith, slots .capacity, d .«entries_reserved»),
-    (d .«entries_few»,
-    (d .some,
-    (new-placed d bs s _ _ start refl (area .items) (slots .items) _ (area .len),
-    (new-whole d bs s _ _ start refl (area .items) (slots .items) _ (area .len),
-    (new-once d bs s _ _ start refl (area .items) (slots .items) (c .pre .new),
-    (new-opens d bs s _ _ start refl (area .items) (slots .items),
-    (new-headed d bs s _ _ start refl (area .items) (slots .items) _ _ b (c .len-place .ensures),
-    (new-linked d bs s _ _ start refl (area .items) (slots .items) next, tt)))))))))))))
+    let next : s .next ≡ latest (vec-len (d .heads)) (bucket-of (vec-len (d .heads)) bs) (texts-in d) = head-read d bs (c .bucket-which .result) (c .index .result .now) lt b (c .index .ensures) in (
+      omega (arith, area .len, f .bytes, d .whole),
+      (
+        omega (arith, area .capacity, d .reserved),
+        (
+          d .few,
+          (
+            omega (arith, slots .len, f .entry, slots-long d),
+            (
+              omega (arith, slots .capacity, d .«entries_reserved»),
+              (
+                d .«entries_few»,
+                (
+                  d .some,
+                  (
+                    new-placed d bs s _ _ start refl (area .items) (slots .items) _ (area .len),
+                    (
+                      new-whole d bs s _ _ start refl (area .items) (slots .items) _ (area .len),
+                      (
+                        new-once d bs s _ _ start refl (area .items) (slots .items) (c .pre .new),
+                        (
+                          new-opens d bs s _ _ start refl (area .items) (slots .items),
+                          (
+                            new-headed d bs s _ _ start refl (area .items) (slots .items) _ _ b (c .len-place .ensures),
+                            (new-linked d bs s _ _ start refl (area .items) (slots .items) next, tt),
+                          ),
+                        ),
+                      ),
+                    ),
+                  ),
+                ),
+              ),
+            ),
+          ),
+        ),
+      ),
+    )
 
 pub returns : need.returns
 returns c =

@@ -48,17 +48,40 @@ ghost-result c =
     let size = c .len .ensures in
     let texts = first-texts _ _ a s in
     let used : vec-len (c .extend-reserved .last .area) ≡ 10 = c .extend-reserved .last .area .ok .0 ∙ ap length a in
-    let count : vec-len (c .push-reserved .last .self) ≡ 1 = c .push-reserved .last .self .ok .0 ∙ ap length s in
-    (omega (arith, used, c .pre .bytes),
-    (omega (arith, area .capacity, c .pre .bytes),
-    (omega (arith, c .pre .bytes),
-    (omega (arith, count, c .pre .entries),
-    (omega (arith, slots .capacity, c .pre .entries),
-    (omega (arith, c .pre .entries),
-    (omega (arith, c .pre .entries),
-    (ap (λ n. slots-within n (vec-items (c .push-reserved .last .self))) used ∙ ap (slots-within 10) s,
-    (ap total texts ∙ sym used,
-    (ap apart texts,
-    (ap (take (length first-entries)) texts,
-    (first-headed _ _ a s _ (vec-items (c .args .heads)) _ (c .pre .no-heads) (sym (c .args .heads .ok .0)) (c .bucket-which .ensures .is ∙ ap (λ n. bucket-of n (c .bytes-first .result .now)) size ∙ ap (bucket-of (vec-len (c .args .heads))) first),
-    (first-linked _ _ a s _, tt)))))))))))))
+    let count : vec-len (c .push-reserved .last .self) ≡ 1 = c .push-reserved .last .self .ok .0 ∙ ap length s in (
+      omega (arith, used, c .pre .bytes),
+      (
+        omega (arith, area .capacity, c .pre .bytes),
+        (
+          omega (arith, c .pre .bytes),
+          (
+            omega (arith, count, c .pre .entries),
+            (
+              omega (arith, slots .capacity, c .pre .entries),
+              (
+                omega (arith, c .pre .entries),
+                (
+                  omega (arith, c .pre .entries),
+                  (
+                    ap (λ n. slots-within n (vec-items (c .push-reserved .last .self))) used ∙ ap (slots-within 10) s,
+                    (
+                      ap total texts ∙ sym used,
+                      (
+                        ap apart texts,
+                        (
+                          ap (take (length first-entries)) texts,
+                          (
+                            first-headed _ _ a s _ (vec-items (c .args .heads)) _ (c .pre .no-heads) (sym (c .args .heads .ok .0)) (c .bucket-which .ensures .is ∙ ap (λ n. bucket-of n (c .bytes-first .result .now)) size ∙ ap (bucket-of (vec-len (c .args .heads))) first),
+                            (first-linked _ _ a s _, tt),
+                          ),
+                        ),
+                      ),
+                    ),
+                  ),
+                ),
+              ),
+            ),
+          ),
+        ),
+      ),
+    )

@@ -1,0 +1,4 @@
+pub mod Stretches
+pub mod Placed
+pub mod Rowwise
+pub mod RowEdits

@@ -1,0 +1,2 @@
+// What spans hold.
+pub mod value;

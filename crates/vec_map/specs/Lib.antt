@@ -1,0 +1,9 @@
+pub mod Keys
+pub mod Entries
+pub mod Fronts
+pub mod Maps
+pub mod Readings
+pub mod Refusals
+pub mod Slices
+pub mod Views
+pub mod Example
