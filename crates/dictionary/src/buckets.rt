@@ -15,7 +15,7 @@ fn mix(bytes: &[u8]) -> u64
 }
 
 // The bucket of a text, of `size` buckets.
-pub fn bucket(bytes: &[u8], size: usize) -> usize
+pub(crate) fn bucket(bytes: &[u8], size: usize) -> usize
     requires { ⌜ 0 < size ⌝ }
     ensures is { λ r. ⌜ r ≡ bucket-of size (now (bytes .entry)) ⌝ }
     ensures below { λ r. ⌜ r < size ⌝ }

@@ -14,7 +14,7 @@ use crate::scans::keep_lasts;
 use crate::scans::keep_others;
 
 // Writes an entry behind the first `len`.
-pub fn append<K: Copy, V: Copy>(entries: &mut [Entry<K, V>], len: usize, entry: Entry<K, V>)
+pub(crate) fn append<K: Copy, V: Copy>(entries: &mut [Entry<K, V>], len: usize, entry: Entry<K, V>)
     requires { ⌜ len < length (now entries) ⌝ }
     ensures turned { λ _. ⌜ Turned (now (entries .entry)) len (now (entries .exit)) (len + 1) (take len (now (entries .entry)) ++ entry ∷ []) ⌝ }
     ensures reads { λ _. ⌜ ((same : K → K → Bool) → Equivalence same → (q : K) → reading same (take (len + 1) (now (entries .exit))) q ≡ cond (same (entry .key) q) (Some (entry .value)) (reading same (take len (now (entries .entry))) q)) ⌝ }
@@ -23,7 +23,7 @@ pub fn append<K: Copy, V: Copy>(entries: &mut [Entry<K, V>], len: usize, entry: 
 }
 
 // Writes the value of an entry of the first `len`.
-pub fn rewrite<K: Copy, V: Copy>(entries: &mut [Entry<K, V>], len: usize, place: usize, value: V)
+pub(crate) fn rewrite<K: Copy, V: Copy>(entries: &mut [Entry<K, V>], len: usize, place: usize, value: V)
     requires held { ⌜ place < len ⌝ }
     requires within { ⌜ place < length (now entries) ⌝ }
     ensures turned { λ _. ⌜ Turned (now (entries .entry)) len (now (entries .exit)) len (with-value (take len (now (entries .entry))) place value) ⌝ }
@@ -35,7 +35,7 @@ pub fn rewrite<K: Copy, V: Copy>(entries: &mut [Entry<K, V>], len: usize, place:
 }
 
 // Takes every entry of the key out of the first `len`, and says how many are left.
-pub fn remove_key<K: Copy, V: Copy, S: Sameness<K>>(
+pub(crate) fn remove_key<K: Copy, V: Copy, S: Sameness<K>>(
     entries: &mut [Entry<K, V>],
     len: usize,
     by: &S,
@@ -50,7 +50,7 @@ pub fn remove_key<K: Copy, V: Copy, S: Sameness<K>>(
 }
 
 // Leaves of the first `len` the last entry of each key, the latest first, and says how many they are.
-pub fn remove_earlier<K: Copy, V: Copy, S: Sameness<K>>(
+pub(crate) fn remove_earlier<K: Copy, V: Copy, S: Sameness<K>>(
     entries: &mut [Entry<K, V>],
     len: usize,
     by: &S,

@@ -9,7 +9,7 @@ use crate::entry::Entry;
 use crate::entry::Sameness;
 
 // Whether some entry has the key.
-pub fn has_key<K: Copy, V: Copy, S: Sameness<K>>(entries: &[Entry<K, V>], by: &S, key: &K) -> bool
+pub(crate) fn has_key<K: Copy, V: Copy, S: Sameness<K>>(entries: &[Entry<K, V>], by: &S, key: &K) -> bool
     ensures { λ r. ⌜ r ≡ holds-key (S·Sameness .alike (now (by .entry))) (now (entries .entry)) (now (key .entry)) ⌝ }
 {
     for e in entries {
@@ -21,7 +21,7 @@ pub fn has_key<K: Copy, V: Copy, S: Sameness<K>>(entries: &[Entry<K, V>], by: &S
 }
 
 // The place of the last entry with the key.
-pub fn last_place<K: Copy, V: Copy, S: Sameness<K>>(
+pub(crate) fn last_place<K: Copy, V: Copy, S: Sameness<K>>(
     entries: &[Entry<K, V>],
     by: &S,
     key: &K,
@@ -39,7 +39,7 @@ pub fn last_place<K: Copy, V: Copy, S: Sameness<K>>(
 }
 
 // The value of the last entry with the key.
-pub fn last_value<K: Copy, V: Copy, S: Sameness<K>>(
+pub(crate) fn last_value<K: Copy, V: Copy, S: Sameness<K>>(
     entries: &[Entry<K, V>],
     by: &S,
     key: &K,
@@ -51,7 +51,7 @@ pub fn last_value<K: Copy, V: Copy, S: Sameness<K>>(
 }
 
 // The entry at a place.
-pub fn entry_in<K: Copy, V: Copy>(entries: &[Entry<K, V>], i: usize) -> Option<Entry<K, V>>
+pub(crate) fn entry_in<K: Copy, V: Copy>(entries: &[Entry<K, V>], i: usize) -> Option<Entry<K, V>>
     ensures { λ r. ⌜ r ≡ entry-at (now (entries .entry)) i ⌝ }
 {
     if i < entries.len() {
@@ -62,7 +62,7 @@ pub fn entry_in<K: Copy, V: Copy>(entries: &[Entry<K, V>], i: usize) -> Option<E
 }
 
 // Whether no two entries have one key.
-pub fn all_distinct<K: Copy, V: Copy, S: Sameness<K>>(entries: &[Entry<K, V>], by: &S) -> bool
+pub(crate) fn all_distinct<K: Copy, V: Copy, S: Sameness<K>>(entries: &[Entry<K, V>], by: &S) -> bool
     ensures { λ r. ⌜ r ≡ distinct (S·Sameness .alike (now (by .entry))) (now (entries .entry)) ⌝ }
 {
     for i in 0..entries.len() {
@@ -74,7 +74,7 @@ pub fn all_distinct<K: Copy, V: Copy, S: Sameness<K>>(entries: &[Entry<K, V>], b
 }
 
 // Moves the entries of other keys to the front, in their order, and says how many they are.
-pub fn keep_others<K: Copy, V: Copy, S: Sameness<K>>(
+pub(crate) fn keep_others<K: Copy, V: Copy, S: Sameness<K>>(
     entries: &mut [Entry<K, V>],
     by: &S,
     key: &K,
@@ -93,7 +93,7 @@ pub fn keep_others<K: Copy, V: Copy, S: Sameness<K>>(
 }
 
 // Moves the last entry of each key to the front, the latest first, and says how many they are.
-pub fn keep_lasts<K: Copy, V: Copy, S: Sameness<K>>(entries: &mut [Entry<K, V>], by: &S) -> usize
+pub(crate) fn keep_lasts<K: Copy, V: Copy, S: Sameness<K>>(entries: &mut [Entry<K, V>], by: &S) -> usize
     ensures { λ r. ⌜ Front (now (entries .exit)) r (reverse (lasts (S·Sameness .alike (now (by .entry))) (now (entries .entry)))) ⌝ }
 {
     entries.reverse();

@@ -56,7 +56,7 @@ impl<V: Copy> Edit<V> {
 }
 
 // Edits the map over a row's own places, and answers what is to be kept of the row.
-pub fn edit_places<V: Copy, S: Sameness<Text>>(
+pub(crate) fn edit_places<V: Copy, S: Sameness<Text>>(
     places: &mut [Entry<Text, V>],
     row: Row,
     by: &S,
