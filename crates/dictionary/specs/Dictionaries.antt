@@ -1,7 +1,7 @@
 -- A dictionary: a list of texts, none twice. A text's number is its place in the list.
 use mathlib.Core.Path.{_≡_}
 use mathlib.Core.Bool.{Bool, true, false, cond, _&&_, _||_, not}
-use mathlib.Core.List.{List, [], _∷_, _++_}
+use mathlib.Core.List.{List, [], _∷_, _++_, map}
 use Prim.Native.Nat.{ℕ, _+_}
 use lib.Dec.{leb, ltb}
 use lib.ListN.{length, getD}
@@ -16,7 +16,7 @@ use Rattle.texts.specs.declared.stock.WellKnown.the-variants.{TopLevel}
 use Rattle.texts.specs.Outcomes.{Outcome}
 use Rattle.texts.specs.Outcomes.Outcome.{taken, refused}
 use Rattle.dictionary.specs.Places.{last-place}
-use Rattle.texts.specs.Stocks.{Texts, spelling, longest, fault-of-put}
+use Rattle.texts.specs.Stocks.{Texts, well-known, spelling, longest, fault-of-put}
 
 -- the most entries
 abbrev pub most-entries : ℕ
@@ -42,7 +42,7 @@ entry-held TopLevel = record { number = 0 }
 
 -- what a dictionary begins with: the well-known texts, in their order
 abbrev pub first-entries : List (List ℕ)
-first-entries = spelling TopLevel ∷ []
+first-entries = map spelling well-known
 
 abbrev pub dictionary-texts : List (List ℕ) → Texts
 dictionary-texts ts = record { known = λ t. ltb (t .number) (length ts); bytes = λ t. getD ts (t .number) []; held = entry-held }

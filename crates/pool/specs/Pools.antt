@@ -12,7 +12,8 @@ use Rattle.texts.specs.declared.stock.WellKnown.{WellKnown}
 use Rattle.texts.specs.declared.stock.WellKnown.the-variants.{TopLevel}
 use Rattle.texts.specs.Outcomes.{Outcome}
 use Rattle.texts.specs.Outcomes.Outcome.{taken, refused}
-use Rattle.texts.specs.Stocks.{Texts, spelling, longest, fault-of-put}
+use Rattle.std.specs.shelf.Lists.{joined}
+use Rattle.texts.specs.Stocks.{Texts, well-known, spelling, longest, fault-of-put}
 
 abbrev pub start-of : Text → ℕ
 start-of t = t .number / 65536
@@ -37,7 +38,7 @@ pool-held TopLevel = text-at 0 10
 
 -- what the bytes of a pool begin with: the well-known texts, one after the other
 abbrev pub prelude : List ℕ
-prelude = spelling TopLevel
+prelude = joined spelling well-known
 
 abbrev pub pool-texts : List ℕ → Texts
 pool-texts area = record { known = in-pool area; bytes = pool-bytes area; held = pool-held }

@@ -1,7 +1,7 @@
 -- What a stock of texts means: which texts it knows, and the bytes that each reads as.
 use mathlib.Core.Path.{_≡_}
 use mathlib.Core.Bool.{Bool, true, false, cond}
-use mathlib.Core.List.{List, []}
+use mathlib.Core.List.{List, [], _∷_}
 use Prim.Native.Nat.{ℕ}
 use lib.Chars.{codes}
 use lib.Dec.{leb}
@@ -17,7 +17,10 @@ use Rattle.texts.specs.declared.stock.StockFault.the-variants.{Unknown, NoSpac
 use Rattle.texts.specs.declared.stock.WellKnown.{WellKnown}
 use Rattle.texts.specs.declared.stock.WellKnown.the-variants.{TopLevel}
 
--- the bytes of the texts that every stock holds from its making
+-- the texts that every stock holds from its making, in the order in which it gets them, and the bytes of each
+abbrev pub well-known : List WellKnown
+well-known = TopLevel ∷ []
+
 abbrev pub spelling : WellKnown → List ℕ
 spelling TopLevel = codes "_top_level"
 
