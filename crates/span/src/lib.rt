@@ -1,2 +1,4 @@
-// What spans hold.
+// What spans hold and show.
+pub mod resource;
+pub mod v1;
 pub mod value;
