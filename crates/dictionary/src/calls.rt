@@ -7,11 +7,11 @@ ghost use lib.ListN.{length, getD, replicate};
 ghost use Rattle.std.specs.Of.Vec.{vec-items, vec-len, vec-cap};
 ghost use Rattle.std.specs.declared.option.Option.the-variants.{None};
 ghost use Rattle.dictionary.specs.Buckets.{slot-bytes};
-ghost use Rattle.dictionary.specs.Dictionaries.{total, first-entries, place-of, fits-beside, fits-in, dictionary-texts, dictionary-room, dictionary-put};
+ghost use Rattle.dictionary.specs.Dictionaries.{most-entries, total, first-entries, place-of, fits-beside, fits-in, dictionary-texts, dictionary-room, dictionary-put};
 ghost use Rattle.dictionary.specs.Held.{texts-in};
 ghost use Rattle.dictionary.specs.Makings.{Dictionary-made};
 ghost use Rattle.texts.specs.Outcomes.{Came};
-ghost use Rattle.texts.specs.Stocks.{Put};
+ghost use Rattle.texts.specs.Stocks.{most-bytes, Put};
 use crate::Dictionary;
 use crate::buckets::bucket;
 use crate::slot::Slot;
@@ -57,8 +57,8 @@ fn begin(
     requires no_bytes { ⌜ vec-items area ≡ [] ⌝ }
     requires no_slots { ⌜ vec-items slots ≡ [] ⌝ }
     requires no_heads { ⌜ vec-items heads ≡ replicate (vec-len heads) None ⌝ }
-    requires bytes { ⌜ total first-entries ≤ limit ⌝ ∗ ⌜ limit ≤ vec-cap area ⌝ ∗ ⌜ limit ≤ 1048576 ⌝ }
-    requires entries { ⌜ length first-entries ≤ vec-len heads ⌝ ∗ ⌜ vec-len heads ≤ vec-cap slots ⌝ ∗ ⌜ vec-len heads ≤ 65536 ⌝ }
+    requires bytes { ⌜ total first-entries ≤ limit ⌝ ∗ ⌜ limit ≤ vec-cap area ⌝ ∗ ⌜ limit ≤ most-bytes ⌝ }
+    requires entries { ⌜ length first-entries ≤ vec-len heads ⌝ ∗ ⌜ vec-len heads ≤ vec-cap slots ⌝ ∗ ⌜ vec-len heads ≤ most-entries ⌝ }
     ensures texts { λ r. ⌜ texts-in r ≡ first-entries ⌝ }
     ensures limit { λ r. ⌜ r .limit ≡ limit ⌝ }
     ensures entries { λ r. ⌜ vec-len (r .heads) ≡ vec-len heads ⌝ }

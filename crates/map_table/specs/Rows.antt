@@ -20,15 +20,15 @@ use Rattle.map_table.specs.declared.table.TableFault.{TableFault}
 use Rattle.map_table.specs.declared.table.TableFault.the-variants.{Stride, Memory}
 use Rattle.vec_map.specs.Entries.{entry-at}
 use Rattle.vec_map.specs.Maps.{Map, blank}
-use Rattle.map_table.specs.Tables.{maps-in}
+use Rattle.map_table.specs.Tables.{most-places, maps-in}
 
 -- the maps of a table
 abbrev pub maps-of : {V : Type 0} → MapTable V → List (Map Text V)
 maps-of t = maps-in (t .stride) (vec-items (t .entries)) (vec-items (t .rows))
 
--- a row has at least one place, and at most 64
+-- a row has at least one place, and not too many
 abbrev pub stride-fits : ℕ → Bool
-stride-fits stride = leb 1 stride && leb stride 64
+stride-fits stride = leb 1 stride && leb stride most-places
 
 -- a new table has no rows, and places as asked for; it is refused exactly for a stride that does not fit, and else there may be no memory
 abbrev pub Table-made : {V : Type 0} → ℕ → ℕ → Result (MapTable V) TableFault → Type 0

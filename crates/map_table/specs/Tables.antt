@@ -10,6 +10,10 @@ use Rattle.vec_map.specs.declared.entry.Entry.{Entry}
 use Rattle.map_table.specs.declared.rows.Row.{Row}
 use Rattle.vec_map.specs.Maps.{Map}
 
+-- the most places that a row may have
+abbrev pub most-places : ℕ
+most-places = 64
+
 -- no row has more entries than the stride
 abbrev pub rows-fit : ℕ → List Row → Bool
 rows-fit stride [] = true

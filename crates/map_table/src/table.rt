@@ -3,7 +3,7 @@ ghost use mathlib.Core.Path.{_≡_};
 ghost use mathlib.Core.Bool.{true};
 ghost use Prim.Native.Nat.{_*_, _≤_};
 ghost use Rattle.std.specs.Of.Vec.{vec-items, vec-len, vec-cap};
-ghost use Rattle.map_table.specs.Tables.{rows-fit};
+ghost use Rattle.map_table.specs.Tables.{most-places, rows-fit};
 use crate::rows::Row;
 use texts::stock::Text;
 use vec_map::entry::Entry;
@@ -27,7 +27,7 @@ pub struct MapTable<V: Copy> {
     room: usize,
     filler: V,
     ghost some: { 1 ≤ stride },
-    ghost few: { stride ≤ 64 },
+    ghost few: { stride ≤ most-places },
     ghost whole: { vec-len entries ≡ vec-len rows * stride },
     ghost fit: { rows-fit stride (vec-items rows) ≡ true },
     ghost within: { vec-len rows ≤ room },

@@ -15,15 +15,19 @@ use Rattle.texts.specs.Outcomes.Outcome.{taken, refused}
 use Rattle.std.specs.shelf.Lists.{joined}
 use Rattle.texts.specs.Stocks.{Texts, well-known, spelling, longest, fault-of-put}
 
+-- what a place in the pool counts in a number: more than the longest text has bytes
+abbrev pub step : ℕ
+step = 65536
+
 abbrev pub start-of : Text → ℕ
-start-of t = t .number / 65536
+start-of t = t .number / step
 
 abbrev pub length-of : Text → ℕ
-length-of t = t .number % 65536
+length-of t = t .number % step
 
 -- the text of so many bytes from a place on
 abbrev pub text-at : ℕ → ℕ → Text
-text-at start len = record { number = start * 65536 + len }
+text-at start len = record { number = start * step + len }
 
 -- a text is known that lies within the bytes put so far
 abbrev pub in-pool : List ℕ → Text → Bool

@@ -19,18 +19,21 @@ use texts::stock::StockFault;
 use texts::stock::Text;
 use texts::stock::WellKnown;
 
+// What a place in the pool counts in a text's number: more than the longest text has bytes.
+const STEP: u64 = 65_536;
+
 // Where a text starts in the pool.
 fn start_of(text: Text) -> usize
     ensures { λ r. ⌜ r ≡ start-of text ⌝ }
 {
-    (text.number / 65_536) as usize
+    (text.number / STEP) as usize
 }
 
 // How many bytes a text has.
 fn length_of(text: Text) -> usize
     ensures { λ r. ⌜ r ≡ length-of text ⌝ }
 {
-    (text.number % 65_536) as usize
+    (text.number % STEP) as usize
 }
 
 impl Pool {
@@ -56,7 +59,7 @@ impl Pool {
         if !self.will_take(bytes) {
             return Err(StockFault::of_put(bytes.len()));
         }
-        let number = self.area.len() as u64 * 65_536 + bytes.len() as u64;
+        let number = self.area.len() as u64 * STEP + bytes.len() as u64;
         let _ = self.area.extend_from_slice(bytes);
         Ok(Text { number })
     }

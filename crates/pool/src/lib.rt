@@ -4,6 +4,7 @@ ghost use Prim.Native.Nat.{_≤_};
 ghost use lib.ListN.{length, take};
 ghost use Rattle.std.specs.Of.Vec.{vec-items, vec-len, vec-cap};
 ghost use Rattle.pool.specs.Pools.{prelude};
+ghost use Rattle.texts.specs.Stocks.{most-bytes};
 
 pub mod calls;
 
@@ -14,6 +15,6 @@ pub struct Pool {
     limit: usize,
     ghost within: { vec-len area ≤ limit },
     ghost reserved: { limit ≤ vec-cap area },
-    ghost few: { limit ≤ 1048576 },
+    ghost few: { limit ≤ most-bytes },
     ghost opens: { take (length prelude) (vec-items area) ≡ prelude },
 }

@@ -23,7 +23,12 @@ pub(crate) fn append<K: Copy, V: Copy>(entries: &mut [Entry<K, V>], len: usize, 
 }
 
 // Writes the value of an entry of the first `len`.
-pub(crate) fn rewrite<K: Copy, V: Copy>(entries: &mut [Entry<K, V>], len: usize, place: usize, value: V)
+pub(crate) fn rewrite<K: Copy, V: Copy>(
+    entries: &mut [Entry<K, V>],
+    len: usize,
+    place: usize,
+    value: V,
+)
     requires held { ⌜ place < len ⌝ }
     requires within { ⌜ place < length (now entries) ⌝ }
     ensures turned { λ _. ⌜ Turned (now (entries .entry)) len (now (entries .exit)) len (with-value (take len (now (entries .entry))) place value) ⌝ }

@@ -9,7 +9,11 @@ use crate::entry::Entry;
 use crate::entry::Sameness;
 
 // Whether some entry has the key.
-pub(crate) fn has_key<K: Copy, V: Copy, S: Sameness<K>>(entries: &[Entry<K, V>], by: &S, key: &K) -> bool
+pub(crate) fn has_key<K: Copy, V: Copy, S: Sameness<K>>(
+    entries: &[Entry<K, V>],
+    by: &S,
+    key: &K,
+) -> bool
     ensures { λ r. ⌜ r ≡ holds-key (S·Sameness .alike (now (by .entry))) (now (entries .entry)) (now (key .entry)) ⌝ }
 {
     for e in entries {
@@ -62,7 +66,10 @@ pub(crate) fn entry_in<K: Copy, V: Copy>(entries: &[Entry<K, V>], i: usize) -> O
 }
 
 // Whether no two entries have one key.
-pub(crate) fn all_distinct<K: Copy, V: Copy, S: Sameness<K>>(entries: &[Entry<K, V>], by: &S) -> bool
+pub(crate) fn all_distinct<K: Copy, V: Copy, S: Sameness<K>>(
+    entries: &[Entry<K, V>],
+    by: &S,
+) -> bool
     ensures { λ r. ⌜ r ≡ distinct (S·Sameness .alike (now (by .entry))) (now (entries .entry)) ⌝ }
 {
     for i in 0..entries.len() {
@@ -93,7 +100,10 @@ pub(crate) fn keep_others<K: Copy, V: Copy, S: Sameness<K>>(
 }
 
 // Moves the last entry of each key to the front, the latest first, and says how many they are.
-pub(crate) fn keep_lasts<K: Copy, V: Copy, S: Sameness<K>>(entries: &mut [Entry<K, V>], by: &S) -> usize
+pub(crate) fn keep_lasts<K: Copy, V: Copy, S: Sameness<K>>(
+    entries: &mut [Entry<K, V>],
+    by: &S,
+) -> usize
     ensures { λ r. ⌜ Front (now (entries .exit)) r (reverse (lasts (S·Sameness .alike (now (by .entry))) (now (entries .entry)))) ⌝ }
 {
     entries.reverse();
