@@ -62,8 +62,8 @@ impl<S: Stock + Drop> Keeper<S> {
     }
 
     fn reading(&mut self, key: &[u8]) -> Result<Answer, MapFault> {
-        self.stock.put(key)?;
-        Ok(Answer::Reading(self.maps.read(&self.stock, 0, key)))
+        let key = self.stock.put(key)?;
+        Ok(Answer::Reading(self.maps.get(&self.stock, 0, key)))
     }
 
     // The value that a word means, with its text put into the stock.
@@ -80,20 +80,14 @@ impl<S: Stock + Drop> Keeper<S> {
     }
 
     pub fn len(&self) -> usize {
-        match self.maps.row(0) {
-            Some(map) => map.len(),
-            None => 0,
-        }
+        self.maps.row_len(0).unwrap_or(0)
     }
 
     pub fn is_deduped(&self) -> bool {
-        match self.maps.row(0) {
-            Some(map) => map.is_deduped(),
-            None => false,
-        }
+        self.maps.row_deduped(0).unwrap_or(false)
     }
 
     pub fn entry(&self, place: usize) -> Option<Entry<Text, Value>> {
-        self.maps.row(0)?.entry(place)
+        self.maps.entry(0, place)
     }
 }

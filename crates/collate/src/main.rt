@@ -1,4 +1,6 @@
 // Keeps one map over a stock of texts, by lines from standard input, and prints what each line came to.
+#![tactic(auto)]
+
 mod action;
 mod keeper;
 mod lines;

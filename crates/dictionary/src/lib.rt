@@ -1,4 +1,6 @@
 // A stock that holds each text once.
+#![tactic(auto)]
+
 ghost use Rattle.std.specs.Prelude.{◌≡◌, ◌<◌, ◌≤◌, true, length, take, vec_len, vec_capacity};
 ghost use Rattle.dictionary.specs.Dictionaries.{most_entries, total, apart, first_entries};
 ghost use Rattle.texts.specs.Stocks.{most_bytes};

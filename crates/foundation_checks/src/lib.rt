@@ -1,4 +1,6 @@
 // Tests of the stocks and the maps on examples and at their limits.
+#![tactic(auto)]
+
 #[cfg(test)]
 mod maps;
 #[cfg(test)]

@@ -1,4 +1,6 @@
 // A stock that appends every text to one run of bytes.
+#![tactic(auto)]
+
 ghost use Rattle.std.specs.Prelude.{◌≡◌, ◌≤◌, length, take, vec_len, vec_capacity};
 ghost use Rattle.pool.specs.Pools.{prelude};
 ghost use Rattle.texts.specs.Stocks.{most_bytes};

@@ -9,6 +9,8 @@
 // - a signed number: the same, after a minus sign or none.
 // A value is two words, a letter for its kind and one of the above.
 // A writer appends to a buffer, which is as it was where memory is wanting.
+#![tactic(auto)]
+
 mod fault;
 mod line;
 mod number_word;

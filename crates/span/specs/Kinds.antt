@@ -1,7 +1,7 @@
 -- The kinds of a span, by number and by word.
 use Rattle.std.specs.Prelude.{ℕ, cond, List, codes, ◌==◌}
-use Rattle.span.specs.declared.kind.SpanKind.{SpanKind}
-use Rattle.span.specs.declared.kind.SpanKind.TheVariants.{Internal, Server, Client, Producer, Consumer}
+use Rattle.span.specs.declared.v1.SpanKind.{SpanKind}
+use Rattle.span.specs.declared.v1.SpanKind.TheVariants.{Internal, Server, Client, Producer, Consumer}
 
 -- 2 to 5 are server, client, producer and consumer; every other number counts as internal
 abbrev pub kind_of : ℕ → SpanKind

@@ -1,13 +1,3 @@
 pub mod Kinds
 pub mod Resources
 pub mod Values
-pub mod Tags
-pub mod Owners
-pub mod Model
-pub mod Keys
-pub mod Readings
-pub mod Views
-pub mod Edits
-pub mod Tables
-pub mod Questions
-pub mod Sights

@@ -16,7 +16,7 @@ module _ {K V : Type 0} (same : K → K → Bool) (laws : Equivalence same) (x :
   firsts_push : (xs : List (Entry K V)) → firsts same (xs ++ (x ∷ [])) ≡ reverse (cond (holds_key same (firsts same xs) x.key) (lasts same (reverse xs)) (x ∷ lasts same (reverse xs)))
   firsts_push xs =
       ap (λ ys. reverse (lasts same ys)) (reverse-append xs (x ∷ []))
-      ∙ ap (λ b. reverse (cond b (lasts same (reverse xs)) (x ∷ lasts same (reverse xs)))) (sym (holds_reverse (λ q. same q x.key) (lasts same (reverse xs)) ∙ holds_lasts same laws (reverse xs) x.key))
+      ∙ ap (λ b. reverse (cond b (lasts same (reverse xs)) (x ∷ lasts same (reverse xs)))) (sym (holds_reverse same (lasts same (reverse xs)) x.key ∙ holds_lasts same laws (reverse xs) x.key))
 
   module _ {zs ys : List (Entry K V)} {k i : ℕ} where
     -- the test, of what stands in front
@@ -29,7 +29,7 @@ module _ {K V : Type 0} (same : K → K → Bool) (laws : Equivalence same) (x :
     firsts_keep m lt read h = moving_keep x m lt
         (ap (firsts same) (moving_read m lt x read) ∙ firsts_push (take i zs)
         ∙ ap (λ b. reverse (cond b (lasts same (reverse (take i zs))) (x ∷ lasts same (reverse (take i zs))))) (tested false m h)
-        ∙ reverse-cons x (lasts same (reverse (take i zs))))
+        ∙ reverse-cons same x (lasts same (reverse (take i zs))))
 
     pub firsts_skip : Moving (firsts same) zs ys k i → i < length ys → x ≡ get_or ys i x → holds_key same (take (k - 0) ys) x.key ≡ true → Moving (firsts same) zs ys k (i + 1)
     firsts_skip m lt read h = moving_skip m lt

@@ -4,7 +4,7 @@ use Rattle.std.proofs.lemmas.Bool.{cases_Bool, or_parts}
 use Rattle.std.proofs.lemmas.List.{reverse-append}
 use Rattle.vec_map.specs.declared.entry.Entry.{Entry}
 use Rattle.vec_map.specs.Keys.{Equivalence}
-use Rattle.vec_map.specs.Entries.{holds_by, read_by, holds_key, reading, without, lasts, distinct, with_value, LastBy, LastAt}
+use Rattle.vec_map.specs.Entries.{holds_key, reading, without, lasts, distinct, with_value, LastAt}
 use Rattle.vec_map.proofs.Steps.{holds_at}
 
 or_assoc : (a b c : Bool) → (a || (b || c)) ≡ ((a || b) || c)
@@ -27,38 +27,39 @@ together true b f g = sym (f refl)
 together false true f g = g refl
 together false false f g = refl
 
-pub reverse-cons : {X : Type 0} (x : X) (xs : List X) → reverse (x ∷ xs) ≡ reverse xs ++ (x ∷ [])
-reverse-cons x xs = reverse-append (x ∷ []) xs
+module _ {K V : Type 0} (same : K → K → Bool) where
+  pub reverse-cons : (e : Entry K V) (es : List (Entry K V)) → reverse (e ∷ es) ≡ reverse es ++ (e ∷ [])
+  reverse-cons e es = reverse-append (e ∷ []) es
 
-module _ {K V : Type 0} (test : K → Bool) where
-  pub holds_append : (xs ys : List (Entry K V)) → holds_by test (xs ++ ys) ≡ (holds_by test xs || holds_by test ys)
-  holds_append [] ys = refl
-  holds_append (x ∷ xs) ys = ap (λ b. test x.key || b) (holds_append xs ys) ∙ or_assoc (test x.key) (holds_by test xs) (holds_by test ys)
+  pub holds_append : (xs ys : List (Entry K V)) (k : K) → holds_key same (xs ++ ys) k ≡ (holds_key same xs k || holds_key same ys k)
+  holds_append [] ys k = refl
+  holds_append (x ∷ xs) ys k = ap (λ b. same x.key k || b) (holds_append xs ys k) ∙ or_assoc (same x.key k) (holds_key same xs k) (holds_key same ys k)
 
-  pub holds_reverse : (es : List (Entry K V)) → holds_by test (reverse es) ≡ holds_by test es
-  holds_reverse [] = refl
-  holds_reverse (e ∷ es) =
-      ap (holds_by test) (reverse-cons e es) ∙ holds_append (reverse es) (e ∷ []) ∙ or_comm (holds_by test (reverse es)) _
-      ∙ ap (λ b. (test e.key || false) || b) (holds_reverse es) ∙ ap (λ b. b || holds_by test es) (or_none (test e.key))
+  pub holds_reverse : (es : List (Entry K V)) (k : K) → holds_key same (reverse es) k ≡ holds_key same es k
+  holds_reverse [] k = refl
+  holds_reverse (e ∷ es) k =
+      ap (λ xs. holds_key same xs k) (reverse-cons e es) ∙ holds_append (reverse es) (e ∷ []) k ∙ or_comm (holds_key same (reverse es) k) _
+      ∙ ap (λ b. (same e.key k || false) || b) (holds_reverse es k) ∙ ap (λ b. b || holds_key same es k) (or_none (same e.key k))
 
-  pub reading-none : (es : List (Entry K V)) → holds_by test es ≡ false → read_by test es ≡ None
-  reading-none [] h = refl
-  reading-none (e ∷ es) h = grind (arith, or_parts (test e.key) (holds_by test es) h)
+  pub reading-none : (es : List (Entry K V)) (k : K) → holds_key same es k ≡ false → reading same es k ≡ None
+  reading-none [] k h = refl
+  reading-none (e ∷ es) k h = grind (arith, or_parts (same e.key k) (holds_key same es k) h)
 
-  pub reading-append : (xs ys : List (Entry K V)) → read_by test (xs ++ ys) ≡ cond (holds_by test ys) (read_by test ys) (read_by test xs)
-  reading-append [] ys = grind (arith, reading-none ys, cases_Bool (holds_by test ys))
-  reading-append (x ∷ xs) ys = grind (arith, reading-append xs ys, holds_append xs ys, cases_Bool (holds_by test ys), cases_Bool (holds_by test xs))
+  pub reading-append : (xs ys : List (Entry K V)) (k : K) → reading same (xs ++ ys) k ≡ cond (holds_key same ys k) (reading same ys k) (reading same xs k)
+  reading-append [] ys k = grind (arith, reading-none ys k, cases_Bool (holds_key same ys k))
+  reading-append (x ∷ xs) ys k = grind (arith, reading-append xs ys k, holds_append xs ys k, cases_Bool (holds_key same ys k), cases_Bool (holds_key same xs k))
 
-  reading-at : (es : List (Entry K V)) (i : ℕ) (d : Entry K V) → i < length es → test (get_or es i d).key ≡ true → holds_by test (drop (suc i) es) ≡ false → read_by test es ≡ Some (get_or es i d).value
-  reading-at [] i d lt h out = absurd (omega arith)
-  reading-at (e ∷ es) zero d lt h out = grind (arith, h, out)
-  reading-at (e ∷ es) (suc i) d lt h out = grind (arith, holds_at test es i d (omega arith) h, reading-at es i d (omega arith) h out)
+module _ {K V : Type 0} (same : K → K → Bool) where
+  reading-at : (es : List (Entry K V)) (i : ℕ) (k : K) (d : Entry K V) → i < length es → same (get_or es i d).key k ≡ true → holds_key same (drop (suc i) es) k ≡ false → reading same es k ≡ Some (get_or es i d).value
+  reading-at [] i k d lt h out = absurd (omega arith)
+  reading-at (e ∷ es) zero k d lt h out = grind (arith, h, out)
+  reading-at (e ∷ es) (suc i) k d lt h out = grind (arith, holds_at same es i k d (omega arith) h, reading-at es i k d (omega arith) h out)
 
-  -- the value at the last place is what is read
-  pub reading-last : (es : List (Entry K V)) (i : ℕ) (d : Entry K V) → LastBy test es i → Some (get_or es i d).value ≡ read_by test es
-  reading-last es i d l =
+  -- the value at the last place is what the key reads
+  pub reading-last : (es : List (Entry K V)) (i : ℕ) (k : K) (d : Entry K V) → LastAt same es k i → Some (get_or es i d).value ≡ reading same es k
+  reading-last es i k d l =
       let n : i + 1 ≡ suc i = omega arith in
-      sym (reading-at es i d l.within (l.here d) (ap (λ m. holds_by test (drop m es)) (sym n) ∙ l.after))
+      sym (reading-at es i k d l.within (l.here d) (ap (λ m. holds_key same (drop m es) k) (sym n) ∙ l.after))
 
 module _ {K : Type 0} (same : K → K → Bool) (laws : Equivalence same) where
   -- keys that are the same are like the same keys
@@ -82,7 +83,7 @@ module _ {K V : Type 0} (same : K → K → Bool) (laws : Equivalence same) wher
 
   pub reading-lasts : (es : List (Entry K V)) (k : K) → reading same (lasts same es) k ≡ reading same es k
   reading-lasts [] k = refl
-  reading-lasts (e ∷ es) k = grind (arith, holds_lasts es k, reading-lasts es k, reading-none (λ q. same q k) es, holds_same es e.key k, cases_Bool (holds_key same es e.key), cases_Bool (same e.key k), cases_Bool (holds_key same es k))
+  reading-lasts (e ∷ es) k = grind (arith, holds_lasts es k, reading-lasts es k, reading-none same es k, holds_same es e.key k, cases_Bool (holds_key same es e.key), cases_Bool (same e.key k), cases_Bool (holds_key same es k))
 
   pub distinct-lasts : (es : List (Entry K V)) → distinct same (lasts same es) ≡ true
   distinct-lasts [] = refl
@@ -90,18 +91,18 @@ module _ {K V : Type 0} (same : K → K → Bool) (laws : Equivalence same) wher
 
   pub distinct_push : (es : List (Entry K V)) (e : Entry K V) → distinct same es ≡ true → holds_key same es e.key ≡ false → distinct same (es ++ (e ∷ [])) ≡ true
   distinct_push [] e d h = refl
-  distinct_push (x ∷ xs) e d h = grind (arith, distinct_push xs e, holds_append (λ q. same q x.key) xs (e ∷ []), same_flip same laws x.key e.key, cases_Bool (holds_key same xs x.key), cases_Bool (same x.key e.key), cases_Bool (distinct same xs), cases_Bool (holds_key same xs e.key))
+  distinct_push (x ∷ xs) e d h = grind (arith, distinct_push xs e, holds_append same xs (e ∷ []) x.key, same_flip same laws x.key e.key, cases_Bool (holds_key same xs x.key), cases_Bool (same x.key e.key), cases_Bool (distinct same xs), cases_Bool (holds_key same xs e.key))
 
   pub distinct-reverse : (es : List (Entry K V)) → distinct same es ≡ true → distinct same (reverse es) ≡ true
   distinct-reverse [] d = refl
   distinct-reverse (e ∷ es) d =
-      ap (distinct same) (reverse-cons e es) ∙ distinct_push (reverse es) e (distinct-reverse es (grind (arith, cases_Bool (holds_key same es e.key)))) (holds_reverse (λ q. same q e.key) es ∙ grind (arith, cases_Bool (holds_key same es e.key)))
+      ap (distinct same) (reverse-cons same e es) ∙ distinct_push (reverse es) e (distinct-reverse es (grind (arith, cases_Bool (holds_key same es e.key)))) (holds_reverse same es e.key ∙ grind (arith, cases_Bool (holds_key same es e.key)))
 
   pub reading-reverse : (es : List (Entry K V)) (k : K) → distinct same es ≡ true → reading same (reverse es) k ≡ reading same es k
   reading-reverse [] k d = refl
   reading-reverse (e ∷ es) k d =
-      ap (λ xs. reading same xs k) (reverse-cons e es) ∙ reading-append (λ q. same q k) (reverse es) (e ∷ [])
-      ∙ grind (arith, reading-reverse es k, reading-none (λ q. same q k) es, holds_same es e.key k, cases_Bool (holds_key same es e.key), cases_Bool (same e.key k), cases_Bool (holds_key same es k))
+      ap (λ xs. reading same xs k) (reverse-cons same e es) ∙ reading-append same (reverse es) (e ∷ []) k
+      ∙ grind (arith, reading-reverse es k, reading-none same es k, holds_same es e.key k, cases_Bool (holds_key same es e.key), cases_Bool (same e.key k), cases_Bool (holds_key same es k))
 
   pub holds_without : (es : List (Entry K V)) (k q : K) → holds_key same (without same es k) q ≡ cond (same k q) false (holds_key same es q)
   holds_without [] k q = grind (arith, cases_Bool (same k q))
@@ -109,10 +110,10 @@ module _ {K V : Type 0} (same : K → K → Bool) (laws : Equivalence same) wher
 
   pub reading-without : (es : List (Entry K V)) (k q : K) → reading same (without same es k) q ≡ cond (same k q) None (reading same es q)
   reading-without [] k q = grind (arith, cases_Bool (same k q))
-  reading-without (e ∷ es) k q = grind (arith, reading-without es k q, reading-none (λ p. same p q) es, holds_without es k q, same_right same laws e.key k q, same_left same laws k q e.key, cases_Bool (same e.key k), cases_Bool (same k q), cases_Bool (same e.key q), cases_Bool (holds_key same es q))
+  reading-without (e ∷ es) k q = grind (arith, reading-without es k q, reading-none same es q, holds_without es k q, same_right same laws e.key k q, same_left same laws k q e.key, cases_Bool (same e.key k), cases_Bool (same k q), cases_Bool (same e.key q), cases_Bool (holds_key same es q))
 
   pub reading-insert : (es : List (Entry K V)) (e : Entry K V) (q : K) → reading same (es ++ (e ∷ [])) q ≡ cond (same e.key q) (Some e.value) (reading same es q)
-  reading-insert es e q = grind (arith, reading-append (λ p. same p q) es (e ∷ []), cases_Bool (same e.key q))
+  reading-insert es e q = grind (arith, reading-append same es (e ∷ []) q, cases_Bool (same e.key q))
 
   pub reading-dedup : (es : List (Entry K V)) (q : K) → reading same (reverse (lasts same es)) q ≡ reading same es q
   reading-dedup es q = reading-reverse (lasts same es) q (distinct-lasts es) ∙ reading-lasts es q
@@ -129,7 +130,7 @@ module _ {K V : Type 0} (same : K → K → Bool) (laws : Equivalence same) wher
   reading-value [] i v k q d lt here after = absurd (omega arith)
   reading-value (e ∷ es) zero v k q d lt here after = grind (arith, here, after, holds_same es k q, same_right same laws e.key k q here, cases_Bool (same k q), cases_Bool (holds_key same es q))
   reading-value (e ∷ es) (suc i) v k q d lt here after =
-      grind (arith, reading-value es i v k q d (omega arith) here after, holds_value es i v q, holds_at (λ p. same p k) es i d (omega arith) here, holds_same es k q, cases_Bool (same k q), cases_Bool (holds_key same es q))
+      grind (arith, reading-value es i v k q d (omega arith) here after, holds_value es i v q, holds_at same es i k d (omega arith) here, holds_same es k q, cases_Bool (same k q), cases_Bool (holds_key same es q))
 
   pub reading-written : (es : List (Entry K V)) (k : K) (i : ℕ) (v : V) → LastAt same es k i → (q : K) → reading same (with_value es i v) q ≡ cond (same k q) (Some v) (reading same es q)
   reading-written [] k i v l q = let z : i < 0 = l.within in absurd (omega arith)

@@ -3,44 +3,38 @@ use Rattle.std.proofs.Common.{◌≡◌, ℕ, zero, suc, ◌+◌, ◌-◌, ◌<�
 use Rattle.std.proofs.lemmas.Bool.{cases_lt, cases_Bool}
 use Rattle.std.proofs.lemmas.List.{drop_more, drop_all, take_all, take_rest, get_or_default}
 use Rattle.vec_map.specs.declared.entry.Entry.{Entry}
-use Rattle.vec_map.specs.Entries.{holds_by, holds_key, distinct, LastBy, entry_at}
-
-module _ {K V : Type 0} (test : K → Bool) where
-  -- an element that was read at i stands in front of the rest
-  read_rest : (es : List (Entry K V)) (i : ℕ) (e : Entry K V) → i < length es → e ≡ get_or es i e → drop i es ≡ e ∷ drop (i + 1) es
-  read_rest es i e lt read = drop_more es i e lt ∙ ap (λ x. x ∷ drop (i + 1) es) (sym read)
-
-  holds_more : (es : List (Entry K V)) (i : ℕ) (e : Entry K V) → i < length es → e ≡ get_or es i e → holds_by test (drop i es) ≡ (test e.key || holds_by test (drop (i + 1) es))
-  holds_more es i e lt read = ap (holds_by test) (read_rest es i e lt read)
-
-  pub holds_end : (es : List (Entry K V)) (i : ℕ) → length es ≤ i → holds_by test (drop i es) ≡ false
-  holds_end es i le = ap (holds_by test) (drop_all i es le)
-
-  -- a walk from the front: what is left decides
-  pub scan_found : (es : List (Entry K V)) (i : ℕ) (e : Entry K V) → holds_by test (drop i es) ≡ holds_by test es → i < length es → e ≡ get_or es i e → true ≡ test e.key → true ≡ holds_by test es
-  scan_found es i e inv lt read yea = ap (λ b. b || holds_by test (drop (i + 1) es)) yea ∙ sym (holds_more es i e lt read) ∙ inv
-
-  pub scan_more : (es : List (Entry K V)) (i : ℕ) (e : Entry K V) → holds_by test (drop i es) ≡ holds_by test es → i < length es → e ≡ get_or es i e → false ≡ test e.key → holds_by test (drop (i + 1) es) ≡ holds_by test es
-  scan_more es i e inv lt read nay = ap (λ b. b || holds_by test (drop (i + 1) es)) nay ∙ sym (holds_more es i e lt read) ∙ inv
-
-  -- a walk from the back: no key from j on passes
-  pub back_more : (es : List (Entry K V)) (i j : ℕ) (d : Entry K V) → holds_by test (drop j es) ≡ false → j ≡ i + 1 → i < length es → false ≡ test (get_or es i d).key → holds_by test (drop i es) ≡ false
-  back_more es i j d inv next lt nay =
-      ap (holds_by test) (drop_more es i d lt) ∙ ap (λ b. b || holds_by test (drop (i + 1) es)) (sym nay) ∙ ap (λ n. holds_by test (drop n es)) (sym next) ∙ inv
-
-  pub back_found : (es : List (Entry K V)) (i j : ℕ) (d : Entry K V) → holds_by test (drop j es) ≡ false → j ≡ i + 1 → i < length es → true ≡ test (get_or es i d).key → LastBy test es i
-  back_found es i j d inv next lt yea = record {
-    within = lt;
-    here = λ x. ap (λ e. test e.key) (get_or_default es i x d lt) ∙ sym yea;
-    after = ap (λ n. holds_by test (drop n es)) (sym next) ∙ inv;
-  }
-
-  pub holds_at : (es : List (Entry K V)) (i : ℕ) (d : Entry K V) → i < length es → test (get_or es i d).key ≡ true → holds_by test es ≡ true
-  holds_at [] i d lt h = absurd (omega arith)
-  holds_at (e ∷ es) zero d lt h = ap (λ b. b || holds_by test es) h
-  holds_at (e ∷ es) (suc i) d lt h = grind (arith, holds_at es i d (omega arith) h, cases_Bool (test e.key))
+use Rattle.vec_map.specs.Entries.{holds_key, distinct, LastAt, entry_at}
 
 module _ {K V : Type 0} (same : K → K → Bool) where
+  -- an element that was read at i stands in front of the rest
+  pub read_rest : (es : List (Entry K V)) (i : ℕ) (e : Entry K V) → i < length es → e ≡ get_or es i e → drop i es ≡ e ∷ drop (i + 1) es
+  read_rest es i e lt read = drop_more es i e lt ∙ ap (λ x. x ∷ drop (i + 1) es) (sym read)
+
+  pub holds_more : (es : List (Entry K V)) (i : ℕ) (e : Entry K V) (k : K) → i < length es → e ≡ get_or es i e → holds_key same (drop i es) k ≡ (same e.key k || holds_key same (drop (i + 1) es) k)
+  holds_more es i e k lt read = ap (λ xs. holds_key same xs k) (read_rest es i e lt read)
+
+  pub holds_end : (es : List (Entry K V)) (i : ℕ) (k : K) → length es ≤ i → holds_key same (drop i es) k ≡ false
+  holds_end es i k le = ap (λ xs. holds_key same xs k) (drop_all i es le)
+
+  -- a walk from the front: what is left decides
+  pub scan_found : (es : List (Entry K V)) (i : ℕ) (e : Entry K V) (k : K) → holds_key same (drop i es) k ≡ holds_key same es k → i < length es → e ≡ get_or es i e → true ≡ same e.key k → true ≡ holds_key same es k
+  scan_found es i e k inv lt read yea = ap (λ b. b || holds_key same (drop (i + 1) es) k) yea ∙ sym (holds_more es i e k lt read) ∙ inv
+
+  pub scan_more : (es : List (Entry K V)) (i : ℕ) (e : Entry K V) (k : K) → holds_key same (drop i es) k ≡ holds_key same es k → i < length es → e ≡ get_or es i e → false ≡ same e.key k → holds_key same (drop (i + 1) es) k ≡ holds_key same es k
+  scan_more es i e k inv lt read nay = ap (λ b. b || holds_key same (drop (i + 1) es) k) nay ∙ sym (holds_more es i e k lt read) ∙ inv
+
+  -- a walk from the back: nothing from j on has the key
+  pub back_more : (es : List (Entry K V)) (i j : ℕ) (d : Entry K V) (k : K) → holds_key same (drop j es) k ≡ false → j ≡ i + 1 → i < length es → false ≡ same (get_or es i d).key k → holds_key same (drop i es) k ≡ false
+  back_more es i j d k inv next lt nay =
+      ap (λ xs. holds_key same xs k) (drop_more es i d lt) ∙ ap (λ b. b || holds_key same (drop (i + 1) es) k) (sym nay) ∙ ap (λ n. holds_key same (drop n es) k) (sym next) ∙ inv
+
+  pub back_found : (es : List (Entry K V)) (i j : ℕ) (d : Entry K V) (k : K) → holds_key same (drop j es) k ≡ false → j ≡ i + 1 → i < length es → true ≡ same (get_or es i d).key k → LastAt same es k i
+  back_found es i j d k inv next lt yea = record {
+    within = lt;
+    here = λ x. ap (λ e. same e.key k) (get_or_default es i x d lt) ∙ sym yea;
+    after = ap (λ n. holds_key same (drop n es) k) (sym next) ∙ inv;
+  }
+
   -- one more entry is like none of those after it, or it is not
   pub distinct_more : (es : List (Entry K V)) (i : ℕ) (d : Entry K V) → i < length es → distinct same (drop i es) ≡ (not (holds_key same (drop (i + 1) es) (get_or es i d).key) && distinct same (drop (i + 1) es))
   distinct_more es i d lt = ap (distinct same) (drop_more es i d lt)
@@ -55,6 +49,11 @@ module _ {K V : Type 0} (same : K → K → Bool) where
 
   pub distinct-end : (es : List (Entry K V)) (i : ℕ) → length es ≤ i → distinct same (drop i es) ≡ true
   distinct-end es i le = ap (distinct same) (drop_all i es le)
+
+  pub holds_at : (es : List (Entry K V)) (i : ℕ) (k : K) (d : Entry K V) → i < length es → same (get_or es i d).key k ≡ true → holds_key same es k ≡ true
+  holds_at [] i k d lt h = absurd (omega arith)
+  holds_at (e ∷ es) zero k d lt h = ap (λ b. b || holds_key same es k) h
+  holds_at (e ∷ es) (suc i) k d lt h = grind (arith, holds_at es i k d (omega arith) h, cases_Bool (same e.key k))
 
 pub take_min : {X : Type 0} (n : ℕ) (xs : List X) → take (min n (length xs)) xs ≡ take n xs
 take_min {X} n xs = ⊎_elim

@@ -1,10 +1,11 @@
 // Maps as lists of entries, of which the last with a key counts.
+#![tactic(auto)]
+
 pub mod entry;
 mod example;
 pub mod fault;
 mod fronts;
 pub mod map;
-mod matcher;
 mod scans;
 pub mod view;
 

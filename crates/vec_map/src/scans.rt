@@ -1,48 +1,53 @@
 // Walks over entries.
 ghost use Rattle.std.specs.Prelude.{◌≡◌, false, reverse, MatchOption};
-ghost use Rattle.vec_map.specs.Entries.{holds_by, read_by, without, lasts, distinct, LastBy, entry_at};
+ghost use Rattle.vec_map.specs.Entries.{holds_key, reading, without, lasts, distinct, LastAt, entry_at};
 ghost use Rattle.vec_map.specs.Fronts.{Front};
 
 use crate::entry::{Entry, Sameness};
-use crate::matcher::{Matcher, SameAs};
 
-// Whether some entry has a key that is looked for.
-pub(crate) fn has_key<K: Copy, V: Copy, M: Matcher<K>>(entries: &[Entry<K, V>], wanted: &M) -> bool
-    ensures { result ≡ holds_by (M.Matcher.passes wanted.now) entries.now }
+// Whether some entry has the key.
+pub(crate) fn has_key<K: Copy, V: Copy, S: Sameness<K>>(
+    entries: &[Entry<K, V>],
+    by: &S,
+    key: &K,
+) -> bool
+    ensures { result ≡ holds_key (S.Sameness.alike by.now) entries.now key.now }
 {
     for e in entries {
-        if wanted.fits(&e.key) {
+        if by.same_key(&e.key, key) {
             return true;
         }
     }
     false
 }
 
-// The place of the last entry whose key is looked for.
-pub(crate) fn last_place<K: Copy, V: Copy, M: Matcher<K>>(
+// The place of the last entry with the key.
+pub(crate) fn last_place<K: Copy, V: Copy, S: Sameness<K>>(
     entries: &[Entry<K, V>],
-    wanted: &M,
+    by: &S,
+    key: &K,
 ) -> Option<usize>
     ensures { MatchOption result
-        (holds_by (M.Matcher.passes wanted.now) entries.now ≡ false)
-        (LastBy (M.Matcher.passes wanted.now) entries.now) }
+        (holds_key (S.Sameness.alike by.now) entries.now key.now ≡ false)
+        (LastAt (S.Sameness.alike by.now) entries.now key.now) }
 {
     for i in (0..entries.len()).rev() {
-        if wanted.fits(&entries[i].key) {
+        if by.same_key(&entries[i].key, key) {
             return Some(i);
         }
     }
     None
 }
 
-// The value of the last entry whose key is looked for.
-pub(crate) fn last_value<K: Copy, V: Copy, M: Matcher<K>>(
+// The value of the last entry with the key.
+pub(crate) fn last_value<K: Copy, V: Copy, S: Sameness<K>>(
     entries: &[Entry<K, V>],
-    wanted: &M,
+    by: &S,
+    key: &K,
 ) -> Option<V>
-    ensures { result ≡ read_by (M.Matcher.passes wanted.now) entries.now }
+    ensures { result ≡ reading (S.Sameness.alike by.now) entries.now key.now }
 {
-    let i = last_place(entries, wanted)?;
+    let i = last_place(entries, by, key)?;
     Some(entries[i].value)
 }
 
@@ -65,11 +70,7 @@ pub(crate) fn all_distinct<K: Copy, V: Copy, S: Sameness<K>>(
     ensures { result ≡ distinct (S.Sameness.alike by.now) entries.now }
 {
     for i in 0..entries.len() {
-        let wanted = SameAs {
-            by,
-            key: &entries[i].key,
-        };
-        if has_key(&entries[i + 1..entries.len()], &wanted) {
+        if has_key(&entries[i + 1..entries.len()], by, &entries[i].key) {
             return false;
         }
     }
@@ -107,8 +108,7 @@ pub(crate) fn keep_lasts<K: Copy, V: Copy, S: Sameness<K>>(
     for i in 0..entries.len() {
         let e = entries[i];
         let all = &*entries;
-        let wanted = SameAs { by, key: &e.key };
-        if !has_key(&all[0..moved], &wanted) {
+        if !has_key(&all[0..moved], by, &e.key) {
             entries[moved] = e;
             moved += 1;
         }

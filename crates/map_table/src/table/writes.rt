@@ -14,13 +14,8 @@ use vec_map::entry::{Entry, Sameness};
 use vec_map::fault::MapFault;
 
 impl<V: Copy> MapTable<V> {
-    // Edits the map over the places of a row: every call that changes one row goes through it.
-    fn edit_row<S: Sameness<Text>>(
-        &mut self,
-        by: &S,
-        row: usize,
-        edit: Edit<V>,
-    ) -> Result<(), MapFault>
+    // Edits the map of a row in its own places of the table. The four calls below are this one, each with its edit.
+    fn edit<S: Sameness<Text>>(&mut self, by: &S, row: usize, edit: Edit<V>) -> Result<(), MapFault>
         ensures came { Came (at_place MapFault.NoPlace (edit_on (S.Sameness.alike by.now) self.old.stride edit) (maps_of self.old) row) (maps_of self.old) (maps_of self.new) result }
         ensures outside { OutsideStays self.old.stride row self.old.entries.items self.new.entries.items }
         ensures shape { ShapeStays self.old self.new }
@@ -36,27 +31,13 @@ impl<V: Copy> MapTable<V> {
         told
     }
 
-    // Edits the map of a row; there must be one.
-    pub fn edit<S: Sameness<Text>>(
-        &mut self,
-        by: &S,
-        row: usize,
-        edit: Edit<V>,
-    ) -> Result<(), MapFault>
-        ensures came { Came (at_place MapFault.NoPlace (edit_on (S.Sameness.alike by.now) self.old.stride edit) (maps_of self.old) row) (maps_of self.old) (maps_of self.new) result }
-        ensures outside { OutsideStays self.old.stride row self.old.entries.items self.new.entries.items }
-        ensures shape { ShapeStays self.old self.new }
-    {
-        self.edit_row(by, row, edit)
-    }
-
     // Appends an entry to a row, and clears its flag. It compares no keys, so any sameness serves.
     pub fn insert(&mut self, row: usize, key: Text, value: V) -> Result<(), MapFault>
         ensures came { Came (at_place MapFault.NoPlace (insert_into self.old.stride key value) (maps_of self.old) row) (maps_of self.old) (maps_of self.new) result }
         ensures outside { OutsideStays self.old.stride row self.old.entries.items self.new.entries.items }
         ensures shape { ShapeStays self.old self.new }
     {
-        self.edit_row(&ByNumber, row, Edit::Insert(key, value))
+        self.edit(&ByNumber, row, Edit::Insert(key, value))
     }
 
     // Takes every entry of the key out of a row, and keeps its flag.
@@ -70,7 +51,7 @@ impl<V: Copy> MapTable<V> {
         ensures outside { OutsideStays self.old.stride row self.old.entries.items self.new.entries.items }
         ensures shape { ShapeStays self.old self.new }
     {
-        self.edit_row(by, row, Edit::Remove(key))
+        self.edit(by, row, Edit::Remove(key))
     }
 
     // Leaves the last entry of each key in a row, the latest first, and flags it.
@@ -79,7 +60,7 @@ impl<V: Copy> MapTable<V> {
         ensures outside { OutsideStays self.old.stride row self.old.entries.items self.new.entries.items }
         ensures shape { ShapeStays self.old self.new }
     {
-        self.edit_row(by, row, Edit::Dedup)
+        self.edit(by, row, Edit::Dedup)
     }
 
     // Flags a row on the caller's word, which is looked into: keys that stand twice are refused.
@@ -88,7 +69,7 @@ impl<V: Copy> MapTable<V> {
         ensures outside { OutsideStays self.old.stride row self.old.entries.items self.new.entries.items }
         ensures shape { ShapeStays self.old self.new }
     {
-        self.edit_row(by, row, Edit::Claim)
+        self.edit(by, row, Edit::Claim)
     }
 
     // Appends a row with no entries, where there is room for one more.

@@ -5,7 +5,6 @@ ghost use Rattle.vec_map.specs.Slices.{map_of};
 
 use crate::entry::{Entry, Sameness};
 use crate::map::VecMap;
-use crate::matcher::SameAs;
 use crate::scans::{all_distinct, entry_in, has_key, last_place, last_value};
 
 impl<K: Copy, V: Copy> VecMap<'_, K, V> {
@@ -56,7 +55,7 @@ impl<K: Copy, V: Copy> VecMap<'_, K, V> {
     {
         let n = self.count();
         let all = &*self.entries;
-        last_value(&all[0..n], &SameAs { by, key })
+        last_value(&all[0..n], by, key)
     }
 
     // Whether some entry has the key.
@@ -65,7 +64,7 @@ impl<K: Copy, V: Copy> VecMap<'_, K, V> {
     {
         let n = self.count();
         let all = &*self.entries;
-        has_key(&all[0..n], &SameAs { by, key })
+        has_key(&all[0..n], by, key)
     }
 
     // The place of the last entry with the key, whose value `set_at` then changes.
@@ -76,7 +75,7 @@ impl<K: Copy, V: Copy> VecMap<'_, K, V> {
     {
         let n = self.count();
         let all = &*self.entries;
-        last_place(&all[0..n], &SameAs { by, key })
+        last_place(&all[0..n], by, key)
     }
 
     // Whether no two entries have one key.

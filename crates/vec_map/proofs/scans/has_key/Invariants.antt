@@ -1,7 +1,7 @@
 use Rattle.std.proofs.Common.{◌≡◌, drop}
-use Rattle.vec_map.specs.Entries.{holds_by}
+use Rattle.vec_map.specs.Entries.{holds_key}
 use Rattle.vec_map.proofs.scans.has_key.Given as goal
 
 -- what is left to look at decides
 abbrev pub invariant-loop-e : goal.invariant-loop-e
-invariant-loop-e g l = let test = g.M.Matcher.passes l.wanted in holds_by test (drop l.e-index l.entries) ≡ holds_by test l.entries
+invariant-loop-e g l = let same = g.S.Sameness.alike l.by in holds_key same (drop l.e-index l.entries) l.key ≡ holds_key same l.entries l.key

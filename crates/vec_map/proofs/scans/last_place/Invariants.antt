@@ -1,7 +1,7 @@
 use Rattle.std.proofs.Common.{◌≡◌, false, drop}
-use Rattle.vec_map.specs.Entries.{holds_by}
+use Rattle.vec_map.specs.Entries.{holds_key}
 use Rattle.vec_map.proofs.scans.last_place.Given as goal
 
--- no key from i on is looked for
+-- no entry from i on has the key
 abbrev pub invariant-loop-i : goal.invariant-loop-i
-invariant-loop-i g l = holds_by (g.M.Matcher.passes l.wanted) (drop l.i l.entries) ≡ false
+invariant-loop-i g l = holds_key (g.S.Sameness.alike l.by) (drop l.i l.entries) l.key ≡ false
