@@ -56,7 +56,7 @@ pub fn read_action(heap: Global, line: &[u8]) -> Result<Action, LineFault> {
 pub fn read_choice(heap: Global, line: &[u8]) -> Result<Choice, LineFault> {
     let mut words = Words::of(heap, line);
     let first = words.next_word();
-    if first != b"stock" {
+    if first != b"stock".as_slice() {
         return Err(expected(heap, "a stock line", first));
     }
     let choice = match words.next_word() {

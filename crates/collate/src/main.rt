@@ -120,10 +120,10 @@ fn no_stock(rt: &HostRuntime, unmade: Unmade<StockFault>) -> anyhow::Result<()> 
 fn message(heap: Global, number: u64, fault: LineFault) -> anyhow::Error {
     match fault {
         LineFault::Expected { what, found } => match told(heap, number, what, &found) {
-            Ok(text) => text.into(),
-            Err(_) => "no memory for a message".into(),
+            Ok(text) => anyhow!("{text}"),
+            Err(_) => anyhow!("no memory for a message"),
         },
-        LineFault::Memory => "no memory for a line".into(),
+        LineFault::Memory => anyhow!("no memory for a line"),
     }
 }
 
