@@ -1,13 +1,13 @@
 -- A pool's put is a stock's: the new text reads as the bytes given, and nothing is forgotten.
-use Rattle.std.proofs.Common.{◌≡◌, ℕ, ◌+◌, ◌*◌, ◌/◌, ◌%◌, ◌<◌, ◌≤◌, Bool, true, false, cond, ◌&&◌, leb, List, [], ◌∷◌, ◌++◌, length, take, drop, Result, sym, refl, ap, ◌∙◌, subst, arith, rules}
-use Rattle.std.proofs.lemmas.List.{length-append, take-append-le, drop-append-le, drop_at, take_all, length-drop, length-take}
+use Rattle.std.proofs.Common.{◌≡◌, ℕ, ◌+◌, ◌≤◌, Bool, true, false, cond, leb, List, [], ◌++◌, length, take, drop, Result, sym, refl, ap, ◌∙◌, subst, arith}
+use Rattle.std.proofs.lemmas.List.{length-append, take-append-le, drop-append-le, drop_at, take_all, length-drop}
 use Rattle.std.proofs.lemmas.Bool.{cases_Bool, leb-true}
 use Rattle.std.proofs.lemmas.Bool.Decides.{nat_tests}
 use Rattle.texts.specs.declared.stock.Text.{Text}
 use Rattle.texts.specs.declared.stock.StockFault.{StockFault}
-use Rattle.texts.specs.Outcomes.{Outcome, leaves, answers, Came}
+use Rattle.texts.specs.Outcomes.{leaves, answers, Came}
 use Rattle.texts.specs.Outcomes.Outcome.{taken, refused}
-use Rattle.texts.specs.Stocks.{Texts, Keeps, Put, longest, fault_of_put}
+use Rattle.texts.specs.Stocks.{Put, longest, fault_of_put}
 use Rattle.pool.specs.Pools.{start_of, length_of, text_at, in_pool, pool_bytes, pool_texts, pool_room, pool_put}
 
 pub start_at : (start len : ℕ) → len ≤ longest → start_of (text_at start len) ≡ start

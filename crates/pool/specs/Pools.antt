@@ -1,8 +1,7 @@
 -- A pool: one run of bytes, to which a put appends. A text's number is where it starts, times 65,536, and its length.
-use Rattle.std.specs.Prelude.{◌≡◌, ℕ, ◌+◌, ◌*◌, ◌/◌, ◌%◌, Bool, true, false, cond, ◌&&◌, List, [], ◌++◌, length, take, drop, nat_le}
+use Rattle.std.specs.Prelude.{ℕ, ◌+◌, ◌*◌, ◌/◌, ◌%◌, Bool, cond, ◌&&◌, List, [], ◌++◌, length, take, drop, nat_le}
 use Rattle.texts.specs.declared.stock.Text.{Text}
 use Rattle.texts.specs.declared.stock.StockFault.{StockFault}
-use Rattle.texts.specs.declared.stock.StockFault.TheVariants.{NoSpace, TooLong}
 use Rattle.texts.specs.declared.stock.WellKnown.{WellKnown}
 use Rattle.texts.specs.declared.stock.WellKnown.TheVariants.{TopLevel}
 use Rattle.texts.specs.Outcomes.{Outcome}

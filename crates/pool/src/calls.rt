@@ -62,7 +62,7 @@ impl Stock for Pool {
 
     ghost room = { λ p. pool_room p.limit p.area.items };
 
-    ghost sound = { first_of (Prim.search rules, Prim.grind (arith, Self.row.coded.inj)) };
+    ghost sound = { Prim.search rules };
 
     fn knows(&self, text: Text) -> bool {
         start_of(text) + length_of(text) <= self.area.len()
