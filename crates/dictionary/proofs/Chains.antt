@@ -1,10 +1,9 @@
 -- A walk along the chain of a bucket, from its latest text back.
-use Rattle.std.proofs.Common.{◌≡◌, ℕ, zero, suc, ◌+◌, ◌<◌, ◌≤◌, Bool, true, false, cond, eqb, List, [], ◌∷◌, ◌++◌, length, get_or, take, drop, Some, None, Option, sym, refl, ap, ◌∙◌, subst, arith}
+use Rattle.std.proofs.Common.{◌≡◌, ℕ, suc, ◌<◌, ◌≤◌, true, false, cond, eqb, List, [], length, get_or, take, Some, None, Option, sym, ap, ◌∙◌, arith}
 use Rattle.std.proofs.lemmas.Slice.Eq.{bytes_eq-Decides}
 use Rattle.std.proofs.lemmas.List.{take_all, length-take, get_or-take, take-take}
 use Rattle.std.proofs.lemmas.Bool.{eqb-true, eq-eqb}
 use Rattle.std.specs.Str.{bytes_eq}
-use Rattle.dictionary.specs.Places.{last_place}
 use Rattle.dictionary.specs.Dictionaries.{place_of}
 use Rattle.dictionary.specs.Buckets.{bucket_of, latest}
 use Rattle.dictionary.specs.PlacesLemmas.{Hit, last_place-hit, narrow, narrow_none}

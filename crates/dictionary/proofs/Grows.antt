@@ -1,13 +1,12 @@
 -- What one text more does to a dictionary: the texts, that they are apart, the heads and the links.
-use Rattle.std.proofs.Common.{◌≡◌, ℕ, zero, suc, ◌+◌, ◌<◌, ◌≤◌, Bool, true, false, cond, not, ◌&&◌, eqb, leb, ◌≢◌, ◌⊎◌, List, [], ◌∷◌, ◌++◌, map, length, get_or, take, drop, set, is_some, Some, None, Option, sym, refl, ap, ◌∙◌, subst, ⊎_elim, arith}
+use Rattle.std.proofs.Common.{◌≡◌, ℕ, suc, ◌+◌, ◌<◌, ◌≤◌, Bool, true, false, cond, not, eqb, leb, List, [], ◌∷◌, ◌++◌, length, get_or, take, drop, set, is_some, Some, None, Option, sym, refl, ap, ◌∙◌, ⊎_elim, arith}
 use Rattle.std.proofs.lemmas.Slice.Eq.{bytes_eq-Decides}
-use Rattle.std.proofs.lemmas.List.{length-append, length-drop, length-take, take-append-le, drop-append-le, drop_at, take_all, take_at, map-append, get_or_append_left, get_or_push, get_or-set_same, get_or-set_other, get_or_default}
-use Rattle.std.proofs.lemmas.Bool.{cases_Bool, cases_lt, cases_eq, leb-true, le-leb, and_parts, and_from, eq-eqb, ne_eqb, not-true}
+use Rattle.std.proofs.lemmas.List.{length-append, length-drop, length-take, take-append-le, drop-append-le, drop_at, take_all, take_at, map-append, get_or_append_left, get_or_push, get_or-set_same, get_or-set_other}
+use Rattle.std.proofs.lemmas.Bool.{cases_Bool, cases_lt, cases_eq, leb-true, le-leb, and_parts, and_from, eq-eqb, ne_eqb}
 use Rattle.std.specs.Option.{option_map, option_or}
 use Rattle.std.specs.Str.{bytes_eq}
 use Rattle.dictionary.specs.declared.slot.Slot.{Slot}
-use Rattle.dictionary.specs.Places.{last_place}
-use Rattle.dictionary.specs.Dictionaries.{total, place_of, apart, first_entries}
+use Rattle.dictionary.specs.Dictionaries.{total, place_of, apart}
 use Rattle.dictionary.specs.Buckets.{slot_bytes, held_texts, slots_within, bucket_of, latest, HeadsRight, LinksRight}
 use Rattle.dictionary.specs.PlacesLemmas.{last_place-push}
 

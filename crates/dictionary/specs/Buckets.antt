@@ -1,5 +1,5 @@
 -- How a dictionary finds a text: texts are spread over buckets by their bytes, and each bucket is a chain from its latest text back.
-use Rattle.std.specs.Prelude.{◌≡◌, ℕ, ◌+◌, ◌*◌, ◌/◌, ◌%◌, ◌^◌, ◌<◌, Bool, true, false, ◌&&◌, List, [], ◌∷◌, map, length, get_or, take, drop, None, Option, bit_xor, nat_eq, nat_le, slice_index_or}
+use Rattle.std.specs.Prelude.{◌≡◌, ℕ, ◌+◌, ◌*◌, ◌/◌, ◌%◌, ◌^◌, ◌<◌, Bool, true, ◌&&◌, List, [], ◌∷◌, map, length, get_or, take, drop, None, Option, bit_xor, nat_eq, nat_le, slice_index_or}
 use Rattle.dictionary.specs.declared.slot.Slot.{Slot}
 use Rattle.dictionary.specs.Places.{last_place}
 

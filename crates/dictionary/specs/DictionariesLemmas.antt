@@ -1,5 +1,5 @@
 -- A dictionary's put is a stock's: the text answered reads as the bytes given, and nothing is forgotten.
-use Rattle.std.specs.Prelude.{◌≡◌, ℕ, ◌+◌, ◌<◌, ◌≤◌, Bool, true, false, cond, ◌||◌, List, [], ◌∷◌, ◌++◌, length, get_or, take, is_some, Some, None, Option, Result, nat_lt, slice_index_or, refl}
+use Rattle.std.specs.Prelude.{◌≡◌, ℕ, ◌<◌, Bool, true, false, cond, ◌||◌, List, [], ◌∷◌, ◌++◌, length, get_or, take, is_some, Some, None, Option, Result, nat_lt, slice_index_or, refl}
 use Rattle.std.proofs.Common.{sym, ap, subst, ◌∙◌, arith}
 use Rattle.std.proofs.lemmas.Slice.Eq.{bytes_eq-Decides}
 use Rattle.std.proofs.lemmas.List.{length-append, length-take, get_or_append_left, get_or_push, get_or_past, get_or-take}
@@ -9,7 +9,7 @@ use Rattle.texts.specs.declared.stock.Text.{Text}
 use Rattle.texts.specs.declared.stock.StockFault.{StockFault}
 use Rattle.texts.specs.declared.stock.WellKnown.{WellKnown}
 use Rattle.texts.specs.declared.stock.WellKnown.TheVariants.{TopLevel}
-use Rattle.texts.specs.Outcomes.{Outcome, leaves, answers, Came}
+use Rattle.texts.specs.Outcomes.{leaves, answers, Came}
 use Rattle.texts.specs.Outcomes.Outcome.{taken, refused}
 use Rattle.texts.specs.Stocks.{Texts, Sound, Keeps, Put, spelling, fault_of_put}
 use Rattle.dictionary.specs.Dictionaries.{place_of, fits_in, entry_held, first_entries, dictionary_texts, dictionary_room, put_at, dictionary_put}

@@ -1,5 +1,5 @@
 -- What making a dictionary gives.
-use Rattle.std.specs.Prelude.{◌≡◌, ℕ, ◌<◌, ◌≤◌, min, length, Ok, Err, vec_len, Result}
+use Rattle.std.specs.Prelude.{◌≡◌, ℕ, ◌≤◌, min, length, Ok, Err, vec_len, Result}
 use Rattle.texts.specs.declared.refusal.Unmade.{Unmade}
 use Rattle.texts.specs.declared.refusal.Unmade.TheVariants.{Refused, Memory}
 use Rattle.texts.specs.declared.stock.StockFault.{StockFault}

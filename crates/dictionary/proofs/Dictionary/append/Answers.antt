@@ -1,11 +1,11 @@
-use Rattle.std.proofs.Common.{◌≡◌, ℕ, ◌+◌, ◌<◌, ◌≤◌, Bool, true, ◌&&◌, ltb, leb, List, [], ◌∷◌, ◌++◌, length, get_or, take, set, Some, None, vec_items, vec_len, vec_capacity, Option, sym, refl, ap, ◌∙◌, subst, arith}
+use Rattle.std.proofs.Common.{◌≡◌, ℕ, ◌+◌, ◌<◌, ◌≤◌, true, ◌&&◌, ltb, leb, List, [], ◌∷◌, ◌++◌, length, get_or, take, set, Some, None, vec_items, vec_len, Option, sym, refl, ap, ◌∙◌, subst, arith}
 use Rattle.std.proofs.lemmas.List.{get_or_default}
 use Rattle.std.proofs.lemmas.Bool.{and_parts, leb-true, ltb-true}
 use Rattle.dictionary.specs.declared.Dictionary.{Dictionary}
 use Rattle.dictionary.specs.declared.slot.Slot.{Slot}
 use Rattle.texts.specs.Stocks.{longest}
 use Rattle.dictionary.specs.Dictionaries.{total, place_of, apart, first_entries, fits_in}
-use Rattle.dictionary.specs.Buckets.{held_texts, slots_within, slot_bytes, bucket_of, latest, HeadsRight, LinksRight}
+use Rattle.dictionary.specs.Buckets.{held_texts, slots_within, bucket_of, latest, HeadsRight, LinksRight}
 use Rattle.dictionary.specs.Held.{texts_in}
 use Rattle.dictionary.proofs.Held.{slots_long}
 use Rattle.dictionary.proofs.Grows.{held-grows, within-grows, total-push, apart-push, opens_stays, heads_grow, links_grow}
@@ -60,66 +60,45 @@ head_read : (d : Dictionary) (bs : List ℕ) (b : ℕ) (h : Option ℕ) → b < 
 head_read d bs b h lt is read =
     read ∙ get_or_default (vec_items d.heads) b h None (omega (arith, d.heads.ok.0)) ∙ d.headed b lt ∙ ap (λ k. latest (vec_len d.heads) k (texts_in d)) is
 
-pub extend-reserved-requires : goal.extend-reserved-requires
-extend-reserved-requires c =
+pub extend_reserved-requires : goal.extend_reserved-requires
+extend_reserved-requires c =
     let d = c.args.self.now in
     let f = fit_parts d c.args.bytes.now c.requires.fits in
     omega (arith, f.bytes, d.whole, d.reserved)
 
-pub push-reserved-requires : goal.push-reserved-requires
-push-reserved-requires c =
+pub push_reserved-requires : goal.push_reserved-requires
+push_reserved-requires c =
     let d = c.args.self.now in
     let f = fit_parts d c.args.bytes.now c.requires.fits in
     omega (arith, f.entry, slots_long d, d.entries_reserved)
 
-pub invariant-of-self : goal.invariant-of-self
-invariant-of-self c =
+pub invariant_of-self : goal.invariant_of-self
+invariant_of-self c =
     let d = c.args.self.now in
     let bs = c.args.bytes.now in
     let f = fit_parts d bs c.requires.fits in
-    let area = c.extend-reserved.ensures in
-    let slots = c.push-reserved.ensures in
+    let area = c.extend_reserved.ensures in
+    let slots = c.push_reserved.ensures in
     let b = c.bucket-which.ensures.is ∙ ap (λ n. bucket_of n bs) c.len.ensures in
     let lt : c.bucket-which.result < vec_len d.heads = omega (arith, c.bucket-which.ensures.below, c.len.ensures) in
     let s : Slot = record { start = c.len-2.result; len = length bs; next = c.index.result.now } in
     let start : s.start ≡ vec_len d.area = c.len-2.ensures in
-    let next : s.next ≡ latest (vec_len d.heads) (bucket_of (vec_len d.heads) bs) (texts_in d) = head_read d bs c.bucket-which.result c.index.result.now lt b c.index.ensures in (
-      omega (arith, area.len, f.bytes, d.whole),
-      (
-        omega (arith, area.capacity, d.reserved),
-        (
-          d.few,
-          (
-            omega (arith, slots.len, f.entry, slots_long d),
-            (
-              omega (arith, slots.capacity, d.entries_reserved),
-              (
-                d.entries_few,
-                (
-                  d.some,
-                  (
-                    new_placed d bs s _ _ start refl area.items slots.items _ area.len,
-                    (
-                      new_whole d bs s _ _ start refl area.items slots.items _ area.len,
-                      (
-                        new_once d bs s _ _ start refl area.items slots.items c.requires.new,
-                        (
-                          new_opens d bs s _ _ start refl area.items slots.items,
-                          (
-                            new_headed d bs s _ _ start refl area.items slots.items _ _ b c.len-place.ensures,
-                            (new_linked d bs s _ _ start refl area.items slots.items next, tt),
-                          ),
-                        ),
-                      ),
-                    ),
-                  ),
-                ),
-              ),
-            ),
-          ),
-        ),
-      ),
-    )
+    let next : s.next ≡ latest (vec_len d.heads) (bucket_of (vec_len d.heads) bs) (texts_in d) = head_read d bs c.bucket-which.result c.index.result.now lt b c.index.ensures in
+    record {
+      within = omega (arith, area.len, f.bytes, d.whole);
+      reserved = omega (arith, area.capacity, d.reserved);
+      few = d.few;
+      entries_within = omega (arith, slots.len, f.entry, slots_long d);
+      entries_reserved = omega (arith, slots.capacity, d.entries_reserved);
+      entries_few = d.entries_few;
+      some = d.some;
+      placed = new_placed d bs s _ _ start refl area.items slots.items _ area.len;
+      whole = new_whole d bs s _ _ start refl area.items slots.items _ area.len;
+      once = new_once d bs s _ _ start refl area.items slots.items c.requires.new;
+      opens = new_opens d bs s _ _ start refl area.items slots.items;
+      headed = new_headed d bs s _ _ start refl area.items slots.items _ _ b c.len-place.ensures;
+      linked = new_linked d bs s _ _ start refl area.items slots.items next;
+    }
 
 pub returns : goal.returns
 returns c =
@@ -128,7 +107,7 @@ returns c =
     let s : Slot = record { start = c.len-2.result; len = length bs; next = c.index.result.now } in
     record {
       number = ap (λ (n : ℕ). record { number = n }) (c.from.ensures ∙ c.len-place.ensures ∙ sym (slots_long d));
-      texts = new_texts d bs s _ _ c.len-2.ensures refl c.extend-reserved.ensures.items c.push-reserved.ensures.items;
+      texts = new_texts d bs s _ _ c.len-2.ensures refl c.extend_reserved.ensures.items c.push_reserved.ensures.items;
       limit = refl;
       buckets = refl;
     }

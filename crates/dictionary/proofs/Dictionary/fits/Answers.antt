@@ -3,4 +3,4 @@ use Rattle.dictionary.proofs.Held.{fits_counted}
 use Rattle.dictionary.proofs.Dictionary.fits.Goals as goal
 
 pub returns : goal.returns
-returns c = c.has-room.ensures ∙ fits_counted c.args.self.now c.args.bytes.now
+returns c = c.has_room.ensures ∙ fits_counted c.args.self.now c.args.bytes.now

@@ -1,4 +1,4 @@
-use Rattle.std.proofs.Common.{◌≡◌, ℕ, ◌<◌, ◌≤◌, false, List, [], length, get_or, take, Some, None, vec_items, vec_len, Option, sym, ap, ◌∙◌, subst, ⊎_elim, arith}
+use Rattle.std.proofs.Common.{◌≡◌, ℕ, ◌<◌, false, List, [], length, get_or, take, Some, None, vec_items, vec_len, Option, sym, ap, ◌∙◌, ⊎_elim, arith}
 use Rattle.std.proofs.lemmas.Slice.Eq.{slice_eq-Decides, bytes_eq-Decides}
 use Rattle.std.proofs.lemmas.List.{length-map, get_or_default}
 use Rattle.std.proofs.lemmas.Bool.{both_ways, cases_Bool}
@@ -37,8 +37,8 @@ module _ (d : Dictionary) (bs : List ℕ) (i : ℕ) (at : Option ℕ) (e : at �
   linked_to : (s : Slot) → s ≡ get_or (vec_items d.slots) i s → s.next ≡ latest (vec_len d.heads) (bucket_of (vec_len d.heads) (get_or (texts_in d) i [])) (take i (texts_in d))
   linked_to s read = let lt : i < length (vec_items d.slots) = omega (arith, within, d.slots.ok.0) in ap (λ (r : Slot). r.next) read ∙ d.linked i s lt
 
-pub entry-bytes-requires : goal.entry-bytes-requires
-entry-bytes-requires c = within c.args.self.now c.args.bytes.now c.in-Some.i c.loop-at.at c.in-Some.is c.loop-at.invariant
+pub entry_bytes-requires : goal.entry_bytes-requires
+entry_bytes-requires c = within c.args.self.now c.args.bytes.now c.in-Some.i c.loop-at.at c.in-Some.is c.loop-at.invariant
 
 pub index-requires : goal.index-requires
 index-requires c = within c.args.self.now c.args.bytes.now c.in-Some.i c.loop-at.at c.in-Some.is c.loop-at.invariant
@@ -46,7 +46,7 @@ index-requires c = within c.args.self.now c.args.bytes.now c.in-Some.i c.loop-at
 pub returns-then-eq : goal.returns-then-eq
 returns-then-eq c =
     walk_found _ _ _ c.in-Some.i (stands c.args.self.now c.args.bytes.now c.in-Some.i c.loop-at.at c.in-Some.is c.loop-at.invariant)
-    (sym c.entry-bytes.ensures ∙ (slice_eq-Decides Decides-eqb _ _ _ c.eq.ensures).0 c.if-eq.true)
+    (sym c.entry_bytes.ensures ∙ (slice_eq-Decides Decides-eqb _ _ _ c.eq.ensures).0 c.if-eq.true)
 
 pub loop-at-smaller : goal.loop-at-smaller
 loop-at-smaller c =
@@ -57,10 +57,10 @@ loop-at-smaller c =
 pub loop-at-preserved : goal.loop-at-preserved
 loop-at-preserved c =
     let d = c.args.self.now in
-    let other : (get_or (texts_in d) c.in-Some.i [] ≡ c.args.bytes.now → ⊥) = λ same. both_ways _ c.if-eq.false ((slice_eq-Decides Decides-eqb _ _ _ c.eq.ensures).1 (c.entry-bytes.ensures ∙ same)) in
+    let other : (get_or (texts_in d) c.in-Some.i [] ≡ c.args.bytes.now → ⊥) = λ same. both_ways _ c.if-eq.false ((slice_eq-Decides Decides-eqb _ _ _ c.eq.ensures).1 (c.entry_bytes.ensures ∙ same)) in
     walk_on _ _ _ c.in-Some.i _ (stands d c.args.bytes.now c.in-Some.i c.loop-at.at c.in-Some.is c.loop-at.invariant)
     (differ _ _ other)
     (linked_to d c.args.bytes.now c.in-Some.i c.loop-at.at c.in-Some.is c.loop-at.invariant c.index.result.now c.index.ensures)
 
 pub returns : goal.returns
-returns c = walk_ends _ _ _ c.loop-at.at c.in-default.is c.loop-at.invariant
+returns c = walk_ends _ _ _ c.loop-at.at c.in_default.is c.loop-at.invariant

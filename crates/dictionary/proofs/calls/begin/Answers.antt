@@ -1,4 +1,4 @@
-use Rattle.std.proofs.Common.{◌≡◌, ℕ, ◌+◌, ◌<◌, ◌≤◌, List, [], ◌∷◌, ◌++◌, length, get_or, take, set, replicate, Some, None, vec_items, vec_len, Option, sym, refl, ap, ◌∙◌, subst, arith, rules}
+use Rattle.std.proofs.Common.{◌≡◌, ℕ, List, [], ◌∷◌, ◌++◌, length, get_or, take, set, replicate, Some, None, vec_items, vec_len, Option, sym, refl, ap, ◌∙◌, subst, arith}
 use Rattle.std.proofs.lemmas.List.{get_or-replicate}
 use Rattle.dictionary.specs.declared.slot.Slot.{Slot}
 use Rattle.texts.specs.declared.stock.WellKnown.TheVariants.{TopLevel}
@@ -28,52 +28,31 @@ module _ (area : List ℕ) (slots : List Slot) (a : area ≡ spelling TopLevel) 
         (subst (LinksRight size (first_slot ∷ [])) (sym first-texts)
         (links_grow size [] (spelling TopLevel) [] first_slot (λ i d lt. absurd (omega arith)) refl refl))
 
-pub invariant-of-result : goal.invariant-of-result
-invariant-of-result c =
+pub invariant_of-result : goal.invariant_of-result
+invariant_of-result c =
     let first = c.bytes-first.ensures in
-    let area = c.extend-reserved.ensures in
-    let slots = c.push-reserved.ensures in
+    let area = c.extend_reserved.ensures in
+    let slots = c.push_reserved.ensures in
     let long : length c.bytes-first.result.now ≡ 10 = ap length first in
-    let a : vec_items c.extend-reserved.new.area ≡ spelling TopLevel = area.items ∙ ap (λ xs. xs ++ c.bytes-first.result.now) c.requires.no_bytes ∙ first in
-    let s : vec_items c.push-reserved.new.self ≡ first_slot ∷ [] =
-    slots.items ∙ ap (λ xs. xs ++ record { start = 0; len = length c.bytes-first.result.now; next = None } ∷ []) c.requires.no-slots ∙ ap (λ n. record { start = 0; len = n; next = None } ∷ []) long in
+    let a : vec_items c.extend_reserved.new.area ≡ spelling TopLevel = area.items ∙ ap (λ xs. xs ++ c.bytes-first.result.now) c.requires.no_bytes ∙ first in
+    let s : vec_items c.push_reserved.new.self ≡ first_slot ∷ [] =
+    slots.items ∙ ap (λ xs. xs ++ record { start = 0; len = length c.bytes-first.result.now; next = None } ∷ []) c.requires.no_slots ∙ ap (λ n. record { start = 0; len = n; next = None } ∷ []) long in
     let size = c.len.ensures in
     let texts = first-texts _ _ a s in
-    let used : vec_len c.extend-reserved.new.area ≡ 10 = c.extend-reserved.new.area.ok.0 ∙ ap length a in
-    let count : vec_len c.push-reserved.new.self ≡ 1 = c.push-reserved.new.self.ok.0 ∙ ap length s in (
-      omega (arith, used, c.requires.bytes),
-      (
-        omega (arith, area.capacity, c.requires.bytes),
-        (
-          omega (arith, c.requires.bytes),
-          (
-            omega (arith, count, c.requires.entries),
-            (
-              omega (arith, slots.capacity, c.requires.entries),
-              (
-                omega (arith, c.requires.entries),
-                (
-                  omega (arith, c.requires.entries),
-                  (
-                    ap (λ n. slots_within n (vec_items c.push-reserved.new.self)) used ∙ ap (slots_within 10) s,
-                    (
-                      ap total texts ∙ sym used,
-                      (
-                        ap apart texts,
-                        (
-                          ap (take (length first_entries)) texts,
-                          (
-                            first-headed _ _ a s _ (vec_items c.args.heads) _ c.requires.no-heads (sym c.args.heads.ok.0) (c.bucket-which.ensures.is ∙ ap (λ n. bucket_of n c.bytes-first.result.now) size ∙ ap (bucket_of (vec_len c.args.heads)) first),
-                            (first-linked _ _ a s _, tt),
-                          ),
-                        ),
-                      ),
-                    ),
-                  ),
-                ),
-              ),
-            ),
-          ),
-        ),
-      ),
-    )
+    let used : vec_len c.extend_reserved.new.area ≡ 10 = c.extend_reserved.new.area.ok.0 ∙ ap length a in
+    let count : vec_len c.push_reserved.new.self ≡ 1 = c.push_reserved.new.self.ok.0 ∙ ap length s in
+    record {
+      within = omega (arith, used, c.requires.bytes);
+      reserved = omega (arith, area.capacity, c.requires.bytes);
+      few = omega (arith, c.requires.bytes);
+      entries_within = omega (arith, count, c.requires.entries);
+      entries_reserved = omega (arith, slots.capacity, c.requires.entries);
+      entries_few = omega (arith, c.requires.entries);
+      some = omega (arith, c.requires.entries);
+      placed = ap (λ n. slots_within n (vec_items c.push_reserved.new.self)) used ∙ ap (slots_within 10) s;
+      whole = ap total texts ∙ sym used;
+      once = ap apart texts;
+      opens = ap (take (length first_entries)) texts;
+      headed = first-headed _ _ a s _ (vec_items c.args.heads) _ c.requires.no_heads (sym c.args.heads.ok.0) (c.bucket-which.ensures.is ∙ ap (λ n. bucket_of n c.bytes-first.result.now) size ∙ ap (bucket_of (vec_len c.args.heads)) first);
+      linked = first-linked _ _ a s _;
+    }
