@@ -6,11 +6,11 @@ use Rattle.vec_map.proofs.scans.last_place.Goals as goal
 pub loop-i-init : goal.loop-i-init
 loop-i-init g c = holds_end _ c.args.entries.now _ c.args.key.now (omega arith)
 
-pub returns-then-same-key : goal.returns-then-same-key
-returns-then-same-key g c = back_found _ c.args.entries.now _ c.loop-i.i _ c.args.key.now c.loop-i.invariant (omega arith) (omega arith) c.if-same-key.ensures
+pub returns-then-same_key : goal.returns-then-same_key
+returns-then-same_key g c = back_found _ c.args.entries.now _ c.loop-i.i _ c.args.key.now c.loop-i.invariant (omega arith) (omega arith) c.if-same_key.ensures
 
 pub loop-i-preserved : goal.loop-i-preserved
-loop-i-preserved g c = back_more _ c.args.entries.now _ c.loop-i.i _ c.args.key.now c.loop-i.invariant (omega arith) (omega arith) c.if-same-key.ensures
+loop-i-preserved g c = back_more _ c.args.entries.now _ c.loop-i.i _ c.args.key.now c.loop-i.invariant (omega arith) (omega arith) c.if-same_key.ensures
 
 pub returns : goal.returns
 returns g c =
