@@ -1,7 +1,7 @@
 -- One stretch of a list, and what a write to it leaves of the rest.
 use Rattle.std.proofs.Common.{◌≡◌, ℕ, ◌+◌, ◌-◌, ◌≤◌, List, ◌++◌, length, take, drop, sym, ap, ◌∙◌, arith}
 use borrow.Rule.Slice.PartMut.{put_mid}
-use lib.Seq.{paste}
+use Rattle.std.proofs.Math.Seq.{paste}
 use Rattle.std.proofs.lemmas.List.{length-take, length-drop, length-append, length-take-le, take_at, drop_at, take-append-le, drop-append-le, append_assoc, drop-drop, drop-take, take-take}
 
 -- the list with zs in the place of its stretch

@@ -3,7 +3,7 @@ ghost use Rattle.std.specs.Prelude.{◌≡◌, ◌≤◌, length, ◌==◌};
 ghost use Rattle.texts.specs.Outcomes.{leaves, answers};
 ghost use Rattle.map_table.specs.Edits.{edit_on, row_map};
 ghost use Rattle.vec_map.specs.Slices.{map_of, Worked};
-ghost use Rattle.std.proofs.Common.{rules};
+ghost use Rattle.map_table.specs.EditsLemmas.{number_equivalence};
 
 use crate::rows::Row;
 use texts::stock::Text;
@@ -26,7 +26,7 @@ pub struct ByNumber;
 impl Sameness<Text> for ByNumber {
     ghost alike = { λ _ a b. (a.number == b.number) };
 
-    ghost equivalence = { Prim.search rules };
+    ghost equivalence = { λ _. number_equivalence };
 
     fn same_key(&self, a: &Text, b: &Text) -> bool {
         a.number == b.number

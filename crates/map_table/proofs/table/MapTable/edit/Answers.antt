@@ -20,34 +20,42 @@ returns-then-row-len g c =
       shape = record { stride = refl; room = refl };
     }
 
-pub invariant-of-self : goal.invariant-of-self
-invariant-of-self g c =
+pub invariant_of-self : goal.invariant_of-self
+invariant_of-self g c =
     let t = c.args.self.now in
-    let start = c.start-of-start.result in
-    let low : c.edit-places-told.result.0.len ≤ t.stride = omega (arith, c.edit-places-told.ensures.fits, length-take (start + t.stride - start) (drop start c.deref-mut.result.now)) in
-    (t.some, (t.few, (t.whole, (fits_set t.stride (vec_items t.rows) c.args.row c.edit-places-told.result.0 low t.fit, (t.within, (t.reserved, (t.places, tt)))))))
+    let start = c.start_of-start.result in
+    let low : c.edit_places-told.result.0.len ≤ t.stride = omega (arith, c.edit_places-told.ensures.fits, length-take (start + t.stride - start) (drop start c.deref_mut.result.now)) in
+    record {
+      some = t.some;
+      few = t.few;
+      whole = t.whole;
+      fit = fits_set t.stride (vec_items t.rows) c.args.row c.edit_places-told.result.0 low t.fit;
+      within = t.within;
+      reserved = t.reserved;
+      places = t.places;
+    }
 
 pub returns : goal.returns
 returns g c =
     let t = c.args.self.now in
     let row = c.args.row in
-    let start = c.start-of-start.result in
+    let start = c.start_of-start.result in
     let stride = t.stride in
     let es = vec_items t.entries in
     let rs = vec_items t.rows in
-    let lent = c.deref-mut.result.now in
-    let is = c.deref-mut.ensures.value in
-    let zs = c.edit-places-told.new.places in
-    let low : c.edit-places-told.result.0.len ≤ stride = omega (arith, c.edit-places-told.ensures.fits, length-take (start + stride - start) (drop start lent)) in
-    let fits : start + stride ≤ length es = omega (arith, c.start-of-start.ensures.within, t.entries.ok.0) in
-    let long : length zs ≡ stride = omega (arith, c.edit-places-told.auto.places, length-take (start + stride - start) (drop start lent), length-drop start lent, ap length is) in
+    let lent = c.deref_mut.result.now in
+    let is = c.deref_mut.ensures.value in
+    let zs = c.edit_places-told.new.places in
+    let low : c.edit_places-told.result.0.len ≤ stride = omega (arith, c.edit_places-told.ensures.fits, length-take (start + stride - start) (drop start lent)) in
+    let fits : start + stride ≤ length es = omega (arith, c.start_of-start.ensures.within, t.entries.ok.0) in
+    let long : length zs ≡ stride = omega (arith, c.edit_places-told.auto.places, length-take (start + stride - start) (drop start lent), length-drop start lent, ap length is) in
     let there : row < length rs = omega (arith, c.len.ensures, c.if-row-len.false, t.rows.ok.0) in
-    let put = stretch_lent es zs lent _ start stride (vec_len t.entries) is t.entries.ok.0 c.start-of-start.ensures.within long in
+    let put = stretch_lent es zs lent _ start stride (vec_len t.entries) is t.entries.ok.0 c.start_of-start.ensures.within long in
     record {
       came =
-          subst (λ xs. Came (at_place NoPlace (edit_on (g.S.Sameness.alike c.args.by.now) stride c.args.edit) (maps_of t) row) (maps_of t) (maps_in stride xs (set rs row c.edit-places-told.result.0)) c.edit-places-told.result.1) (sym put)
-          (row_edited _ stride es rs row start (λ n. edit_on (g.S.Sameness.alike c.args.by.now) n c.args.edit) c.index-kept.result.now c.edit-places-told.result.0 (take (start + stride - start) (drop start lent)) zs _
-          c.start-of-start.ensures.start fits there t.fit c.index-kept.ensures (lent_stretch es lent start stride is) low long c.edit-places-told.ensures.told c.edit-places-told.ensures.left);
-      outside = subst (OutsideStays stride row es) (sym put) (outside_stretch stride row start es zs c.start-of-start.ensures.start fits long);
+          subst (λ xs. Came (at_place NoPlace (edit_on (g.S.Sameness.alike c.args.by.now) stride c.args.edit) (maps_of t) row) (maps_of t) (maps_in stride xs (set rs row c.edit_places-told.result.0)) c.edit_places-told.result.1) (sym put)
+          (row_edited _ stride es rs row start (λ n. edit_on (g.S.Sameness.alike c.args.by.now) n c.args.edit) c.index-kept.result.now c.edit_places-told.result.0 (take (start + stride - start) (drop start lent)) zs _
+          c.start_of-start.ensures.start fits there t.fit c.index-kept.ensures (lent_stretch es lent start stride is) low long c.edit_places-told.ensures.told c.edit_places-told.ensures.left);
+      outside = subst (OutsideStays stride row es) (sym put) (outside_stretch stride row start es zs c.start_of-start.ensures.start fits long);
       shape = record { stride = refl; room = refl };
     }

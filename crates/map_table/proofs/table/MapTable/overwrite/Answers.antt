@@ -7,24 +7,20 @@ use Rattle.map_table.proofs.RowEdits.{row_at, places_long, outside_stretch}
 use Rattle.map_table.proofs.Stretches.{pasted_stretch}
 use Rattle.map_table.proofs.table.MapTable.overwrite.Goals as goal
 
-pub invariant-of-self : goal.invariant-of-self
-invariant-of-self g c =
+pub invariant_of-self : goal.invariant_of-self
+invariant_of-self g c =
     let t = c.args.self.now in
     let rs = vec_items t.rows in
     let there : c.args.from < length rs = omega (arith, t.rows.ok.0, c.requires.source) in
-    let low = fits_read t.stride rs c.args.from c.index-kept.result.now c.index-kept.ensures there t.fit in (
-      t.some,
-      (
-        t.few,
-        (
-          c.copy-within.ensures.len ∙ t.whole,
-          (
-            fits_set t.stride rs c.args.to c.index-kept.result.now low t.fit,
-            (t.within, (t.reserved, (omega (arith, t.places, c.copy-within.ensures.capacity), tt))),
-          ),
-        ),
-      ),
-    )
+    let low = fits_read t.stride rs c.args.from c.index-kept.result.now c.index-kept.ensures there t.fit in record {
+      some = t.some;
+      few = t.few;
+      whole = c.copy_within.ensures.len ∙ t.whole;
+      fit = fits_set t.stride rs c.args.to c.index-kept.result.now low t.fit;
+      within = t.within;
+      reserved = t.reserved;
+      places = omega (arith, t.places, c.copy_within.ensures.capacity);
+    }
 
 pub returns : goal.returns
 returns g c =
@@ -33,19 +29,19 @@ returns g c =
     let es = vec_items t.entries in
     let rs = vec_items t.rows in
     let kept = c.index-kept.result.now in
-    let source = c.start-of-source.result in
-    let target = c.start-of-target.result in
+    let source = c.start_of-source.result in
+    let target = c.start_of-target.result in
     let zs = take stride (drop source es) in
     let there : c.args.from < length rs = omega (arith, t.rows.ok.0, c.requires.source) in
-    let inside : source + stride ≤ length es = omega (arith, c.start-of-source.ensures.within, t.entries.ok.0) in
-    let fits : target + stride ≤ length es = omega (arith, c.start-of-target.ensures.within, t.entries.ok.0) in
-    let long = places_long stride es rs c.args.from source c.start-of-source.ensures.start inside there t.fit in
-    let copied = c.copy-within.ensures.items ∙ pasted_stretch es (drop source es) target stride (source + stride - source) (omega arith) in
+    let inside : source + stride ≤ length es = omega (arith, c.start_of-source.ensures.within, t.entries.ok.0) in
+    let fits : target + stride ≤ length es = omega (arith, c.start_of-target.ensures.within, t.entries.ok.0) in
+    let long = places_long stride es rs c.args.from source c.start_of-source.ensures.start inside there t.fit in
+    let copied = c.copy_within.ensures.items ∙ pasted_stretch es (drop source es) target stride (source + stride - source) (omega arith) in
     record {
       maps =
           ap (λ xs. maps_in stride xs (set rs c.args.to kept)) copied
-          ∙ maps-set stride es zs rs c.args.to target kept c.start-of-target.ensures.start fits t.fit (fits_read stride rs c.args.from kept c.index-kept.ensures there t.fit) long
-          ∙ ap (set (maps_of t) c.args.to) (sym (row_at stride es rs c.args.from source c.start-of-source.ensures.start inside there t.fit kept c.index-kept.ensures blank));
-      outside = subst (OutsideStays stride c.args.to es) (sym copied) (outside_stretch stride c.args.to target es zs c.start-of-target.ensures.start fits long);
+          ∙ maps-set stride es zs rs c.args.to target kept c.start_of-target.ensures.start fits t.fit (fits_read stride rs c.args.from kept c.index-kept.ensures there t.fit) long
+          ∙ ap (set (maps_of t) c.args.to) (sym (row_at stride es rs c.args.from source c.start_of-source.ensures.start inside there t.fit kept c.index-kept.ensures blank));
+      outside = subst (OutsideStays stride c.args.to es) (sym copied) (outside_stretch stride c.args.to target es zs c.start_of-target.ensures.start fits long);
       shape = record { stride = refl; room = refl };
     }

@@ -8,14 +8,14 @@ returns-then-row-len g c =
     let t = c.args.self.now in
     row_unread t.stride (vec_items t.entries) (vec_items t.rows) c.args.row (omega (arith, t.rows.ok.0, c.len.ensures))
 
-pub overflow-add-result : goal.overflow-add-result
-overflow-add-result g c =
+pub overflow_add-result : goal.overflow_add-result
+overflow_add-result g c =
     let t = c.args.self.now in
     let low = fits_read t.stride (vec_items t.rows) c.args.row c.index-kept.result.now c.index-kept.ensures (omega (arith, t.rows.ok.0, c.len.ensures)) t.fit in
-    omega (arith, c.start-of-start.ensures.within, t.entries.ok.1, t.entries.small)
+    omega (arith, c.start_of-start.ensures.within, t.entries.ok.1, t.entries.small)
 
-pub slice-bounds-result-end : goal.slice-bounds-result-end
-slice-bounds-result-end g c =
+pub slice_bounds-result-end : goal.slice_bounds-result-end
+slice_bounds-result-end g c =
     let t = c.args.self.now in
     let low = fits_read t.stride (vec_items t.rows) c.args.row c.index-kept.result.now c.index-kept.ensures (omega (arith, t.rows.ok.0, c.len.ensures)) t.fit in
     search rules
@@ -24,5 +24,5 @@ pub returns : goal.returns
 returns g c =
     let t = c.args.self.now in
     let there : c.args.row < length (vec_items t.rows) = omega (arith, t.rows.ok.0, c.len.ensures) in
-    row_read t.stride (vec_items t.entries) (vec_items t.rows) c.args.row c.start-of-start.result c.index-kept.result.now c.deref.result.now
-    c.start-of-start.ensures.start (omega (arith, c.start-of-start.ensures.within, t.entries.ok.0)) there t.fit c.index-kept.ensures c.deref.ensures.value
+    row_read t.stride (vec_items t.entries) (vec_items t.rows) c.args.row c.start_of-start.result c.index-kept.result.now c.deref.result.now
+    c.start_of-start.ensures.start (omega (arith, c.start_of-start.ensures.within, t.entries.ok.0)) there t.fit c.index-kept.ensures c.deref.ensures.value
