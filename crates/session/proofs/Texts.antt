@@ -1,5 +1,5 @@
 -- A text byte by byte: how a spelling begins, and that what is written reads back.
-use Rattle.std.proofs.Common.{◌≡◌, ℕ, suc, ◌+◌, ◌-◌, ◌^◌, ◌<◌, ◌≤◌, true, false, cond, not, eqb, ltb, leb, List, [], ◌∷◌, ◌++◌, length, get_or, take, drop, Some, None, Option, sym, refl, ap, ◌∙◌, ⊎_elim, append_assoc, arith, w8, Fits}
+use Rattle.std.proofs.Common.{◌≡◌, ℕ, suc, ◌+◌, ◌-◌, ◌^◌, ◌<◌, true, false, cond, not, eqb, ltb, leb, List, [], ◌∷◌, ◌++◌, length, get_or, take, drop, Some, None, Option, sym, refl, ap, ◌∙◌, ⊎_elim, append_assoc, arith, w8, Fits}
 use Rattle.std.proofs.lemmas.List.{take_rest}
 use Rattle.std.proofs.lemmas.Bool.{and_parts, and_from, cases_Bool, not-true}
 use Rattle.std.specs.List.{flat_map}
@@ -21,21 +21,6 @@ unspelt-plain c (d ∷ []) is = ap (λ b. onto (cond b (Some c) None) (unspelt (
 unspelt-plain c (d ∷ (e ∷ cs)) is =
     ap (λ b. cond b (onto (number_of 16 255 (d ∷ (e ∷ []))) (unspelt cs)) (onto (itself c) (unspelt (d ∷ (e ∷ cs))))) (plain-sign c is)
     ∙ ap (λ b. onto (cond b (Some c) None) (unspelt (d ∷ (e ∷ cs)))) is
-
-pub first_plain : (cs : List ℕ) → 1 ≤ length cs → plain (get_or cs 0 0) ≡ true → SpellsFirst cs (get_or cs 0 0) 1
-first_plain [] some is = absurd (omega arith)
-first_plain (c ∷ cs) some is = record { some = omega arith; within = omega arith; rest = unspelt-plain c cs is }
-
--- a percent sign and two digits
-pub first-escaped : (cs : List ℕ) (c : ℕ) → 3 ≤ length cs → get_or cs 0 0 ≡ 37 → number_of 16 255 (get_or cs 1 0 ∷ (get_or cs 2 0 ∷ [])) ≡ Some c → SpellsFirst cs c 3
-first-escaped [] c some sign is = absurd (omega arith)
-first-escaped (p ∷ []) c some sign is = absurd (omega arith)
-first-escaped (p ∷ (d ∷ [])) c some sign is = absurd (omega arith)
-first-escaped (p ∷ (d ∷ (e ∷ cs))) c some sign is = record {
-  some = omega arith;
-  within = omega arith;
-  rest = ap (λ q. unspelt (q ∷ (d ∷ (e ∷ cs)))) sign ∙ ap (λ o. onto o (unspelt cs)) is;
-}
 
 -- a byte as it is written, before a spelling
 unspelt-byte : (c : ℕ) (cs : List ℕ) → c < 2 ^ 8 → unspelt (spelt_byte c ++ cs) ≡ onto (Some c) (unspelt cs)

@@ -116,7 +116,7 @@ pub fn write_unsigned(out: &mut Vec<u8>, number: u64) -> Result<(), AllocError>
     ensures reads_back { unsigned_of (2 ^ 64 - 1) (decimal number) ≡ Some number }
     ensures whole { unspaced (decimal number) ≡ true }
 {
-    let word = decimal_word(out.allocator(), number)?;
+    let word = decimal_word(*out.allocator(), number)?;
     out.extend_from_slice(word.as_bytes())
 }
 
@@ -135,7 +135,7 @@ pub fn write_signed(out: &mut Vec<u8>, number: i64) -> Result<(), AllocError>
     ensures reads_back { signed_of (signed_decimal number) ≡ Some number }
     ensures whole { unspaced (signed_decimal number) ≡ true }
 {
-    let word = signed_word(out.allocator(), number)?;
+    let word = signed_word(*out.allocator(), number)?;
     out.extend_from_slice(word.as_bytes())
 }
 

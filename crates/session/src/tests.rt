@@ -29,16 +29,16 @@ fn texts(rt: HostRuntime) -> Result<(), Fail> {
 fn numbers(rt: HostRuntime) -> Result<(), Fail> {
     let mut out = Vec::new(rt.alloc());
     write_unsigned(&mut out, u64::MAX)?;
-    assert_eq!(rt; out.as_slice(), b"18446744073709551615");
+    assert_eq!(rt; out.as_slice(), b"18446744073709551615".as_slice());
     out.clear();
     write_signed(&mut out, i64::MIN)?;
-    assert_eq!(rt; out.as_slice(), b"-9223372036854775808");
+    assert_eq!(rt; out.as_slice(), b"-9223372036854775808".as_slice());
     out.clear();
     write_float(&mut out, 0x4020_0000_0000_0000)?;
-    assert_eq!(rt; out.as_slice(), b"x4020000000000000");
+    assert_eq!(rt; out.as_slice(), b"x4020000000000000".as_slice());
     out.clear();
     write_flag(&mut out, true)?;
-    assert_eq!(rt; out.as_slice(), b"1");
+    assert_eq!(rt; out.as_slice(), b"1".as_slice());
     let unsigned: [(&[u8], Option<u64>); 5] = [
         (b"18446744073709551615", Some(u64::MAX)),
         (b"18446744073709551616", None),

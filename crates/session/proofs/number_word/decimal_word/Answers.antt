@@ -5,6 +5,6 @@ use Rattle.session.proofs.number_word.decimal_word.Goals as goal
 pub returns : goal.returns
 returns c = record {
   made = search rules;
-  reads-back = decimal_reads 18446744073709551615 c.args.number (omega arith) (omega arith);
+  reads_back = decimal_reads 18446744073709551615 c.args.number (omega arith) (omega arith);
   whole = (decimal_counts c.args.number (omega arith)).visible;
 }

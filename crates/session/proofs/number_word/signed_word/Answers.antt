@@ -5,6 +5,6 @@ use Rattle.session.proofs.number_word.signed_word.Goals as goal
 pub returns : goal.returns
 returns c = record {
   made = search rules;
-  reads-back = signed_reads c.args.number c.ranges.number.sfits;
+  reads_back = signed_reads c.args.number c.ranges.number.sfits;
   whole = signed-visible c.args.number c.ranges.number.sfits;
 }
