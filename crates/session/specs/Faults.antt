@@ -10,6 +10,6 @@ holds_of test (Some x) = test x
 
 -- the meaning, or that there is none; memory is wanting only for a meaning that takes some
 abbrev pub Reads : {V X : Type 0} → (V → X) → (X → Bool) → Option X → Result V WordFault → Type 0
-Reads value TakesMemory meaning (Ok v) = meaning ≡ Some (value v)
-Reads value TakesMemory meaning (Err Malformed) = meaning ≡ None
-Reads value TakesMemory meaning (Err Memory) = holds_of TakesMemory meaning ≡ true
+Reads value takes_memory meaning (Ok v) = meaning ≡ Some (value v)
+Reads value takes_memory meaning (Err Malformed) = meaning ≡ None
+Reads value takes_memory meaning (Err Memory) = holds_of takes_memory meaning ≡ true
