@@ -41,9 +41,12 @@ fn full_pool(rt: HostRuntime) -> Result<(), Fail> {
     assert_eq!(rt; put(&mut pool, b"ab"), Ok(655_362));
     assert_eq!(rt; put(&mut pool, b"c"), Err(10));
     assert_eq!(rt; put(&mut pool, b""), Ok(786_432));
-    assert_eq!(rt; pool.bytes(pool.held(WellKnown::TopLevel)), b"_top_level");
-    assert_eq!(rt; pool.bytes(Text { number: 655_362 }), b"ab");
-    assert_eq!(rt; pool.bytes(Text { number: 655_363 }), b"");
+    assert_eq!(rt;
+        pool.bytes(pool.held(WellKnown::TopLevel)),
+        b"_top_level".as_slice()
+    );
+    assert_eq!(rt; pool.bytes(Text { number: 655_362 }), b"ab".as_slice());
+    assert_eq!(rt; pool.bytes(Text { number: 655_363 }), b"".as_slice());
     Ok(())
 }
 
