@@ -11,4 +11,4 @@ shorter text line None e = omega arith
 shorter text line (Some m) e = omega (arith, ap length e, length-append line (10 ∷ m.now))
 
 pub returns : goal.returns
-returns c = omega (arith, shorter _ _ c.cut-line.result.1 c.cut-line.ensures.rejoined, ap unread c.in-ok-text.was)
+returns c = omega (arith, shorter _ _ c.cut_line.result.1 c.cut_line.ensures.rejoined, ap unread c.in_ok-text.was)
