@@ -49,18 +49,6 @@ module _ {K V : Type 0} (same : K → K → Bool) where
   reading-append [] ys k = grind (arith, reading-none ys k, cases_Bool (holds_key same ys k))
   reading-append (x ∷ xs) ys k = grind (arith, reading-append xs ys k, holds_append xs ys k, cases_Bool (holds_key same ys k), cases_Bool (holds_key same xs k))
 
-module _ {K V : Type 0} (same : K → K → Bool) where
-  reading-at : (es : List (Entry K V)) (i : ℕ) (k : K) (d : Entry K V) → i < length es → same (get_or es i d).key k ≡ true → holds_key same (drop (suc i) es) k ≡ false → reading same es k ≡ Some (get_or es i d).value
-  reading-at [] i k d lt h out = absurd (omega arith)
-  reading-at (e ∷ es) zero k d lt h out = grind (arith, h, out)
-  reading-at (e ∷ es) (suc i) k d lt h out = grind (arith, holds_at same es i k d (omega arith) h, reading-at es i k d (omega arith) h out)
-
-  -- the value at the last place is what the key reads
-  pub reading-last : (es : List (Entry K V)) (i : ℕ) (k : K) (d : Entry K V) → LastAt same es k i → Some (get_or es i d).value ≡ reading same es k
-  reading-last es i k d l =
-      let n : i + 1 ≡ suc i = omega arith in
-      sym (reading-at es i k d l.within (l.here d) (ap (λ m. holds_key same (drop m es) k) (sym n) ∙ l.after))
-
 module _ {K : Type 0} (same : K → K → Bool) (laws : Equivalence same) where
   -- keys that are the same are like the same keys
   pub same_left : (a b k : K) → same a b ≡ true → same k a ≡ same k b

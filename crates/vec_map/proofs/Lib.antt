@@ -1,3 +1,4 @@
+pub mod Tests
 pub mod Steps
 pub mod Laws
 pub mod Moves

@@ -1,40 +1,11 @@
 -- One step of a walk over entries.
 use Rattle.std.proofs.Common.{◌≡◌, ℕ, zero, suc, ◌+◌, ◌-◌, ◌<◌, ◌≤◌, min, Bool, true, false, not, ◌&&◌, ◌||◌, List, [], ◌∷◌, length, get_or, take, drop, Some, None, sym, refl, ap, ◌∙◌, ⊎_elim, arith}
 use Rattle.std.proofs.lemmas.Bool.{cases_lt, cases_Bool}
-use Rattle.std.proofs.lemmas.List.{drop_more, drop_all, take_all, take_rest, get_or_default}
+use Rattle.std.proofs.lemmas.List.{drop_more, drop_all, take_all, take_rest}
 use Rattle.vec_map.specs.declared.entry.Entry.{Entry}
-use Rattle.vec_map.specs.Entries.{holds_key, distinct, LastAt, entry_at}
+use Rattle.vec_map.specs.Entries.{holds_key, distinct, entry_at}
 
 module _ {K V : Type 0} (same : K → K → Bool) where
-  -- an element that was read at i stands in front of the rest
-  pub read_rest : (es : List (Entry K V)) (i : ℕ) (e : Entry K V) → i < length es → e ≡ get_or es i e → drop i es ≡ e ∷ drop (i + 1) es
-  read_rest es i e lt read = drop_more es i e lt ∙ ap (λ x. x ∷ drop (i + 1) es) (sym read)
-
-  pub holds_more : (es : List (Entry K V)) (i : ℕ) (e : Entry K V) (k : K) → i < length es → e ≡ get_or es i e → holds_key same (drop i es) k ≡ (same e.key k || holds_key same (drop (i + 1) es) k)
-  holds_more es i e k lt read = ap (λ xs. holds_key same xs k) (read_rest es i e lt read)
-
-  pub holds_end : (es : List (Entry K V)) (i : ℕ) (k : K) → length es ≤ i → holds_key same (drop i es) k ≡ false
-  holds_end es i k le = ap (λ xs. holds_key same xs k) (drop_all i es le)
-
-  -- a walk from the front: what is left decides
-  pub scan_found : (es : List (Entry K V)) (i : ℕ) (e : Entry K V) (k : K) → holds_key same (drop i es) k ≡ holds_key same es k → i < length es → e ≡ get_or es i e → true ≡ same e.key k → true ≡ holds_key same es k
-  scan_found es i e k inv lt read yea = ap (λ b. b || holds_key same (drop (i + 1) es) k) yea ∙ sym (holds_more es i e k lt read) ∙ inv
-
-  pub scan_more : (es : List (Entry K V)) (i : ℕ) (e : Entry K V) (k : K) → holds_key same (drop i es) k ≡ holds_key same es k → i < length es → e ≡ get_or es i e → false ≡ same e.key k → holds_key same (drop (i + 1) es) k ≡ holds_key same es k
-  scan_more es i e k inv lt read nay = ap (λ b. b || holds_key same (drop (i + 1) es) k) nay ∙ sym (holds_more es i e k lt read) ∙ inv
-
-  -- a walk from the back: nothing from j on has the key
-  pub back_more : (es : List (Entry K V)) (i j : ℕ) (d : Entry K V) (k : K) → holds_key same (drop j es) k ≡ false → j ≡ i + 1 → i < length es → false ≡ same (get_or es i d).key k → holds_key same (drop i es) k ≡ false
-  back_more es i j d k inv next lt nay =
-      ap (λ xs. holds_key same xs k) (drop_more es i d lt) ∙ ap (λ b. b || holds_key same (drop (i + 1) es) k) (sym nay) ∙ ap (λ n. holds_key same (drop n es) k) (sym next) ∙ inv
-
-  pub back_found : (es : List (Entry K V)) (i j : ℕ) (d : Entry K V) (k : K) → holds_key same (drop j es) k ≡ false → j ≡ i + 1 → i < length es → true ≡ same (get_or es i d).key k → LastAt same es k i
-  back_found es i j d k inv next lt yea = record {
-    within = lt;
-    here = λ x. ap (λ e. same e.key k) (get_or_default es i x d lt) ∙ sym yea;
-    after = ap (λ n. holds_key same (drop n es) k) (sym next) ∙ inv;
-  }
-
   -- one more entry is like none of those after it, or it is not
   pub distinct_more : (es : List (Entry K V)) (i : ℕ) (d : Entry K V) → i < length es → distinct same (drop i es) ≡ (not (holds_key same (drop (i + 1) es) (get_or es i d).key) && distinct same (drop (i + 1) es))
   distinct_more es i d lt = ap (distinct same) (drop_more es i d lt)

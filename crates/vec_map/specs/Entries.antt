@@ -3,6 +3,16 @@ use Rattle.std.specs.Prelude.{◌≡◌, ℕ, zero, suc, ◌+◌, ◌<◌, Bool,
 use Rattle.std.specs.List.{HoldsAt}
 use Rattle.vec_map.specs.declared.entry.Entry.{Entry}
 
+-- some entry has a key that passes the test
+abbrev pub holds_by : {K V : Type 0} → (K → Bool) → List (Entry K V) → Bool
+holds_by test [] = false
+holds_by test (e ∷ es) = test e.key || holds_by test es
+
+-- the value of the last entry whose key passes the test
+abbrev pub read_by : {K V : Type 0} → (K → Bool) → List (Entry K V) → Option V
+read_by test [] = None
+read_by test (e ∷ es) = cond (holds_by test es) (read_by test es) (cond (test e.key) (Some e.value) None)
+
 -- some entry has the key k
 abbrev pub holds_key : {K V : Type 0} → (K → K → Bool) → List (Entry K V) → K → Bool
 holds_key same [] k = false
@@ -32,6 +42,12 @@ abbrev pub with_value : {K V : Type 0} → List (Entry K V) → ℕ → V → Li
 with_value [] i v = []
 with_value (e ∷ es) zero v = record { key = e.key; value = v } ∷ es
 with_value (e ∷ es) (suc i) v = e ∷ with_value es i v
+
+-- the key of the entry at i passes the test, and that of no later one does
+pub record LastBy {K V : Type 0} (test : K → Bool) (es : List (Entry K V)) (i : ℕ) : Type 0 where
+  pub within : i < length es
+  pub here : HoldsAt (λ e. test e.key ≡ true) es i
+  pub after : holds_by test (drop (i + 1) es) ≡ false
 
 -- the entry at i has the key k, and no later one has it
 pub record LastAt {K V : Type 0} (same : K → K → Bool) (es : List (Entry K V)) (k : K) (i : ℕ) : Type 0 where

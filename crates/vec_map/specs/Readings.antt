@@ -1,7 +1,15 @@
--- What a call does to what keys read.
-use Rattle.std.specs.Prelude.{◌≡◌, Bool, true, cond, Option}
-use Rattle.vec_map.specs.Entries.{reading, distinct}
+-- What keys read, and what a call does to that.
+use Rattle.std.specs.Prelude.{◌≡◌, ℕ, Bool, true, cond, List, Option}
+use Rattle.std.specs.Str.{bytes_eq}
+use Rattle.texts.specs.declared.stock.Text.{Text}
+use Rattle.texts.specs.Stocks.{Texts}
+use Rattle.vec_map.specs.declared.entry.Entry.{Entry}
+use Rattle.vec_map.specs.Entries.{read_by, reading, distinct}
 use Rattle.vec_map.specs.Maps.{Map}
+
+-- what the key with the bytes bs reads
+abbrev pub reads : {V : Type 0} → Texts → List (Entry Text V) → List ℕ → Option V
+reads t es bs = read_by (λ q. bytes_eq (t.bytes q) bs) es
 
 -- the key k reads as r says, and every other key as before
 abbrev pub ReadsWith : {K V : Type 0} → (K → K → Bool) → Map K V → Map K V → K → Option V → Type 0

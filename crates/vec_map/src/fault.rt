@@ -10,6 +10,8 @@ use texts::stock::StockFault;
 pub enum MapFault {
     // What the stock of texts refused.
     Stock(StockFault),
+    // The edition has no such map, or no map for such a value.
+    Lacks,
     // No place is left for one more entry.
     Full,
     // There is no entry, or no row, at that place.
@@ -24,6 +26,7 @@ impl Fault for MapFault {
     fn refusal(&self) -> Refusal {
         let number = match self {
             MapFault::Stock(inner) => return inner.refusal(),
+            MapFault::Lacks => 7,
             MapFault::Full | MapFault::NoPlace => 8,
             MapFault::Twice => 9,
         };

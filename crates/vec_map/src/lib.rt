@@ -6,6 +6,7 @@ mod example;
 pub mod fault;
 mod fronts;
 pub mod map;
+mod matcher;
 mod scans;
 pub mod view;
 

@@ -1,9 +1,50 @@
 // Walks over entries.
 ghost use Rattle.std.specs.Prelude.{◌≡◌, false, reverse, MatchOption};
-ghost use Rattle.vec_map.specs.Entries.{holds_key, reading, without, lasts, distinct, LastAt, entry_at};
+ghost use Rattle.vec_map.specs.Entries.{holds_by, holds_key, read_by, reading, without, lasts, distinct, LastBy, LastAt, entry_at};
 ghost use Rattle.vec_map.specs.Fronts.{Front};
 
 use crate::entry::{Entry, Sameness};
+use crate::matcher::{Matcher, SameAs};
+
+// Whether some entry has a key that fits.
+pub(crate) fn any_fits<K: Copy, V: Copy, M: Matcher<K>>(entries: &[Entry<K, V>], wanted: &M) -> bool
+    ensures { result ≡ holds_by (M.Matcher.passes wanted.now) entries.now }
+{
+    for e in entries {
+        if wanted.fits(&e.key) {
+            return true;
+        }
+    }
+    false
+}
+
+// The place of the last entry whose key fits.
+pub(crate) fn last_fitting<K: Copy, V: Copy, M: Matcher<K>>(
+    entries: &[Entry<K, V>],
+    wanted: &M,
+) -> Option<usize>
+    ensures { MatchOption result
+        (holds_by (M.Matcher.passes wanted.now) entries.now ≡ false)
+        (LastBy (M.Matcher.passes wanted.now) entries.now) }
+{
+    for i in (0..entries.len()).rev() {
+        if wanted.fits(&entries[i].key) {
+            return Some(i);
+        }
+    }
+    None
+}
+
+// The value of the last entry whose key fits.
+pub(crate) fn value_of_last_fitting<K: Copy, V: Copy, M: Matcher<K>>(
+    entries: &[Entry<K, V>],
+    wanted: &M,
+) -> Option<V>
+    ensures { result ≡ read_by (M.Matcher.passes wanted.now) entries.now }
+{
+    let i = last_fitting(entries, wanted)?;
+    Some(entries[i].value)
+}
 
 // Whether some entry has the key.
 pub(crate) fn has_key<K: Copy, V: Copy, S: Sameness<K>>(
@@ -13,12 +54,7 @@ pub(crate) fn has_key<K: Copy, V: Copy, S: Sameness<K>>(
 ) -> bool
     ensures { result ≡ holds_key (S.Sameness.alike by.now) entries.now key.now }
 {
-    for e in entries {
-        if by.same_key(&e.key, key) {
-            return true;
-        }
-    }
-    false
+    any_fits(entries, &SameAs { by, key })
 }
 
 // The place of the last entry with the key.
@@ -31,12 +67,7 @@ pub(crate) fn last_place<K: Copy, V: Copy, S: Sameness<K>>(
         (holds_key (S.Sameness.alike by.now) entries.now key.now ≡ false)
         (LastAt (S.Sameness.alike by.now) entries.now key.now) }
 {
-    for i in (0..entries.len()).rev() {
-        if by.same_key(&entries[i].key, key) {
-            return Some(i);
-        }
-    }
-    None
+    last_fitting(entries, &SameAs { by, key })
 }
 
 // The value of the last entry with the key.
@@ -47,8 +78,7 @@ pub(crate) fn last_value<K: Copy, V: Copy, S: Sameness<K>>(
 ) -> Option<V>
     ensures { result ≡ reading (S.Sameness.alike by.now) entries.now key.now }
 {
-    let i = last_place(entries, by, key)?;
-    Some(entries[i].value)
+    value_of_last_fitting(entries, &SameAs { by, key })
 }
 
 // The entry at a place.

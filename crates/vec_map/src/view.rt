@@ -1,10 +1,13 @@
 // A map that is lent to be read.
 ghost use Rattle.std.specs.Prelude.{◌≡◌, length};
-ghost use Rattle.vec_map.specs.Entries.{entry_at, reading};
+ghost use Rattle.vec_map.specs.Entries.{entry_at, reading, distinct};
+ghost use Rattle.vec_map.specs.Readings.{reads};
 ghost use Rattle.vec_map.specs.Views.{view_map};
 
 use crate::entry::{Entry, Sameness};
-use crate::scans::{entry_in, last_value};
+use crate::matcher::Spelt;
+use crate::scans::{all_distinct, entry_in, last_value, value_of_last_fitting};
+use texts::stock::{Stock, Text};
 
 // All entries of a slice; `deduped` says that no two of them have one key.
 #[derive(Clone, Copy)]
@@ -40,5 +43,21 @@ impl<K: Copy, V: Copy> MapView<'_, K, V> {
         ensures { result ≡ reading (S.Sameness.alike by.now) (view_map self.now).entries key.now }
     {
         last_value(self.entries, by, key)
+    }
+
+    // Whether no two entries have one key.
+    pub fn is_distinct<S: Sameness<K>>(&self, by: &S) -> bool
+        ensures { result ≡ distinct (S.Sameness.alike by.now) (view_map self.now).entries }
+    {
+        all_distinct(self.entries, by)
+    }
+}
+
+impl<V: Copy> MapView<'_, Text, V> {
+    // What the key with these bytes reads. No stock has to hold them as a text.
+    pub fn read<S: Stock>(&self, stock: &S, key: &[u8]) -> Option<V>
+        ensures { result ≡ reads (S.Stock.meaning stock.now) (view_map self.now).entries key.now }
+    {
+        value_of_last_fitting(self.entries, &Spelt { stock, bytes: key })
     }
 }
