@@ -4,11 +4,11 @@ use Rattle.texts.specs.Outcomes.{Outcome, leaves, answers, carry, at_place}
 use Rattle.texts.specs.Outcomes.Outcome.{taken, refused}
 
 module _ {X Y R F : Type 0} (f : X → Y) where
-  answers-carry : (o : Outcome X R F) → answers (carry f o) ≡ answers o
+  pub answers-carry : (o : Outcome X R F) → answers (carry f o) ≡ answers o
   answers-carry (taken x a) = refl
   answers-carry (refused e) = refl
 
-  leaves-carry : (x : X) (o : Outcome X R F) → leaves (f x) (carry f o) ≡ f (leaves x o)
+  pub leaves-carry : (x : X) (o : Outcome X R F) → leaves (f x) (carry f o) ≡ f (leaves x o)
   leaves-carry x (taken y a) = refl
   leaves-carry x (refused e) = refl
 
@@ -28,3 +28,9 @@ module _ {X R F : Type 0} (none : F) (call : X → Outcome X R F) where
   none_at [] i le = refl
   none_at (x ∷ xs) zero le = absurd (omega arith)
   none_at (x ∷ xs) (suc i) le = ap (carry (λ ys. x ∷ ys)) (none_at xs i (omega arith))
+
+  -- a call at a place leaves as many elements as there were
+  pub length_at : (xs : List X) (i : ℕ) → length (leaves xs (at_place none call xs i)) ≡ length xs
+  length_at [] i = refl
+  length_at (x ∷ xs) zero = ap length (leaves-carry (λ y. y ∷ xs) x (call x))
+  length_at (x ∷ xs) (suc i) = ap length (leaves-carry (λ ys. x ∷ ys) xs (at_place none call xs i)) ∙ ap suc (length_at xs i)

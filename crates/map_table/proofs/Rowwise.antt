@@ -1,7 +1,7 @@
 -- The maps of the rows, where a row is read, edited, added or taken away.
-use Rattle.std.proofs.Common.{◌≡◌, ℕ, zero, suc, ◌+◌, ◌*◌, ◌<◌, ◌≤◌, true, leb, List, [], ◌∷◌, ◌++◌, length, get_or, take, drop, set, sym, refl, ap, ◌∙◌, subst, suc-mul, zero-mul, arith}
-use Rattle.std.proofs.lemmas.List.{length-drop, take-append-le, drop-append-le, drop_at, drop-drop, drop-take, take-take, nil_from_length}
-use Rattle.std.proofs.lemmas.Bool.{and_parts, and_from, leb-true, le-leb}
+use Rattle.std.proofs.Common.{◌≡◌, ℕ, zero, suc, ◌+◌, ◌*◌, ◌<◌, ◌≤◌, true, false, ◌&&◌, leb, List, [], ◌∷◌, ◌++◌, length, get_or, take, drop, set, sym, refl, ap, ◌∙◌, subst, suc-mul, zero-mul, arith}
+use Rattle.std.proofs.lemmas.List.{length-drop, drop_more, drop_all, take-append-le, drop-append-le, drop_at, drop-drop, drop-take, take-take, nil_from_length}
+use Rattle.std.proofs.lemmas.Bool.{and_parts, and_from, leb-true, le-leb, lt-leb}
 use Rattle.texts.specs.declared.stock.Text.{Text}
 use Rattle.vec_map.specs.declared.entry.Entry.{Entry}
 use Rattle.map_table.specs.declared.rows.Row.{Row}
@@ -43,6 +43,19 @@ module _ (st : ℕ) where
   fits_take zero rs h = refl
   fits_take (suc k) [] h = refl
   fits_take (suc k) (r ∷ rs) h = fits_more r (take k rs) (fits_first r rs h) (fits_take k rs (fits_rest r rs h))
+
+  -- a walk over the rows: what is left decides
+  fits_here : (rs : List Row) (i : ℕ) (d : Row) → i < length rs → rows_fit st (drop i rs) ≡ (leb (get_or rs i d).len st && rows_fit st (drop (i + 1) rs))
+  fits_here rs i d lt = ap (rows_fit st) (drop_more rs i d lt)
+
+  pub fits_found : (rs : List Row) (i : ℕ) (d : Row) → rows_fit st (drop i rs) ≡ rows_fit st rs → i < length rs → st < (get_or rs i d).len → false ≡ rows_fit st rs
+  fits_found rs i d inv lt high = ap (λ b. b && rows_fit st (drop (i + 1) rs)) (sym (lt-leb (get_or rs i d).len st high)) ∙ sym (fits_here rs i d lt) ∙ inv
+
+  pub fits_on : (rs : List Row) (i : ℕ) (d : Row) → rows_fit st (drop i rs) ≡ rows_fit st rs → i < length rs → (get_or rs i d).len ≤ st → rows_fit st (drop (i + 1) rs) ≡ rows_fit st rs
+  fits_on rs i d inv lt low = ap (λ b. b && rows_fit st (drop (i + 1) rs)) (sym (le-leb (get_or rs i d).len st low)) ∙ sym (fits_here rs i d lt) ∙ inv
+
+  pub fits_end : (rs : List Row) (i : ℕ) → length rs ≤ i → rows_fit st (drop i rs) ≡ true
+  fits_end rs i le = ap (rows_fit st) (drop_all i rs le)
 
 module _ {V : Type 0} (st : ℕ) where
   pub length-maps : (es : List (Entry Text V)) (rs : List Row) → length (maps_in st es rs) ≡ length rs

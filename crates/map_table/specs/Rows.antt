@@ -4,14 +4,18 @@ use Rattle.std.specs.Option.{option_map, option_flatten}
 use Rattle.texts.specs.declared.stock.Text.{Text}
 use Rattle.texts.specs.Outcomes.{Outcome}
 use Rattle.texts.specs.Outcomes.Outcome.{taken, refused}
+use Rattle.vec_map.specs.declared.entry.Entry.{Entry}
 use Rattle.vec_map.specs.declared.fault.MapFault.{MapFault}
 use Rattle.vec_map.specs.declared.fault.MapFault.TheVariants.{Full, NoPlace}
+use Rattle.map_table.specs.declared.rows.Row.{Row}
 use Rattle.map_table.specs.declared.table.MapTable.{MapTable}
 use Rattle.map_table.specs.declared.table.TableFault.{TableFault}
 use Rattle.map_table.specs.declared.table.TableFault.TheVariants.{Stride, Memory}
+use Rattle.map_table.specs.declared.table.PartsFault.{PartsFault}
+use Rattle.map_table.specs.declared.table.PartsFault.TheVariants as parts
 use Rattle.vec_map.specs.Entries.{entry_at}
 use Rattle.vec_map.specs.Maps.{Map, blank}
-use Rattle.map_table.specs.Tables.{most_places, maps_in}
+use Rattle.map_table.specs.Tables.{most_places, parts_fit, maps_in}
 
 -- the maps of a table
 abbrev pub maps_of : {V : Type 0} → MapTable V → List (Map Text V)
@@ -26,6 +30,12 @@ abbrev pub TableMade : {V : Type 0} → ℕ → ℕ → Result (MapTable V) Tabl
 TableMade stride room (Ok t) = (stride_fits stride ≡ true) × (maps_of t ≡ []) × (t.stride ≡ stride) × (t.room ≡ room)
 TableMade stride room (Err Stride) = stride_fits stride ≡ false
 TableMade stride room (Err Memory) = stride_fits stride ≡ true
+
+-- a table of parts has just their rows, and room for no more; it is refused exactly for parts that do not fit, and next for a stride that does not
+abbrev pub TableJoined : {V : Type 0} → ℕ → List (Entry Text V) → List Row → Result (MapTable V) PartsFault → Type 0
+TableJoined stride es rs (Ok t) = (parts_fit stride es rs ≡ true) × (stride_fits stride ≡ true) × (maps_of t ≡ maps_in stride es rs) × (t.stride ≡ stride) × (t.room ≡ length rs)
+TableJoined stride es rs (Err parts.Stride) = (parts_fit stride es rs ≡ true) × (stride_fits stride ≡ false)
+TableJoined stride es rs (Err parts.Broken) = parts_fit stride es rs ≡ false
 
 -- the shape of a table stays
 pub record ShapeStays {V : Type 0} (t t' : MapTable V) : Type 0 where

@@ -1,5 +1,5 @@
 -- Rows of maps in one table of entries: the row at place p has the entries from p × stride on.
-use Rattle.std.specs.Prelude.{◌≡◌, ℕ, ◌+◌, ◌*◌, Bool, true, ◌&&◌, List, [], ◌∷◌, take, drop, nat_le}
+use Rattle.std.specs.Prelude.{◌≡◌, ℕ, ◌+◌, ◌*◌, Bool, true, ◌&&◌, List, [], ◌∷◌, length, take, drop, ◌==◌, nat_le}
 use Rattle.texts.specs.declared.stock.Text.{Text}
 use Rattle.vec_map.specs.declared.entry.Entry.{Entry}
 use Rattle.map_table.specs.declared.rows.Row.{Row}
@@ -13,6 +13,10 @@ most_places = 64
 abbrev pub rows_fit : ℕ → List Row → Bool
 rows_fit stride [] = true
 rows_fit stride (r ∷ rs) = nat_le r.len stride && rows_fit stride rs
+
+-- the entries are just the places of the rows, each of which has no more of them than it has places
+abbrev pub parts_fit : {V : Type 0} → ℕ → List (Entry Text V) → List Row → Bool
+parts_fit stride es rs = length es == length rs * stride && rows_fit stride rs
 
 -- the maps of the rows, whose entries follow one another by strides
 abbrev pub maps_in : {V : Type 0} → ℕ → List (Entry Text V) → List Row → List (Map Text V)

@@ -9,8 +9,11 @@ use vec_map::entry::Entry;
 mod bounds;
 mod edits;
 mod making;
+mod parts;
 mod reads;
 mod writes;
+
+pub use edits::Edit;
 
 // The most entries that a row has places for.
 pub const MOST_PLACES: usize = 64;
@@ -40,4 +43,13 @@ pub enum TableFault {
     Stride,
     // There is no memory for that many rows.
     Memory,
+}
+
+// Why parts are not those of a table.
+#[derive(Clone, Copy, Debug)]
+pub enum PartsFault {
+    // The entries are not just the places of the rows, or a row has more of them than it has places.
+    Broken,
+    // A row has at least one place and at most `MOST_PLACES`.
+    Stride,
 }

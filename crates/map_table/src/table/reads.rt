@@ -1,12 +1,13 @@
 // Reading the rows of a table.
 ghost use Rattle.std.specs.Prelude.{◌≡◌, length};
 ghost use Rattle.std.specs.Option.{option_map};
-ghost use Rattle.vec_map.specs.Entries.{entry_at, reading};
+ghost use Rattle.vec_map.specs.Entries.{distinct, entry_at, reading};
+ghost use Rattle.vec_map.specs.Readings.{reads};
 ghost use Rattle.map_table.specs.Rows.{maps_of, in_row};
 ghost use Rattle.vec_map.specs.Views.{view_map};
 
 use crate::table::MapTable;
-use texts::stock::Text;
+use texts::stock::{Stock, Text};
 use vec_map::entry::{Entry, Sameness};
 use vec_map::view::MapView;
 
@@ -77,5 +78,28 @@ impl<V: Copy> MapTable<V> {
     {
         let view = self.view(row)?;
         view.entry(i)
+    }
+
+    // The map of a row, if there is one.
+    pub fn row(&self, row: usize) -> Option<MapView<'_, Text, V>>
+        ensures { option_map view_map result ≡ entry_at (maps_of self.now) row }
+    {
+        self.view(row)
+    }
+
+    // What the key with these bytes reads in a row; a row that is missing reads nothing.
+    pub fn read<S: Stock>(&self, stock: &S, row: usize, key: &[u8]) -> Option<V>
+        ensures { result ≡ in_row (λ m. reads (S.Stock.meaning stock.now) m.entries key.now) (maps_of self.now) row }
+    {
+        let view = self.view(row)?;
+        view.read(stock, key)
+    }
+
+    // Whether no two entries of a row have one key.
+    pub fn row_distinct<S: Sameness<Text>>(&self, by: &S, row: usize) -> Option<bool>
+        ensures { result ≡ option_map (λ m. distinct (S.Sameness.alike by.now) m.entries) (entry_at (maps_of self.now) row) }
+    {
+        let view = self.view(row)?;
+        Some(view.is_distinct(by))
     }
 }

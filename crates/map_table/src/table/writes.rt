@@ -14,8 +14,13 @@ use vec_map::entry::{Entry, Sameness};
 use vec_map::fault::MapFault;
 
 impl<V: Copy> MapTable<V> {
-    // Edits the map of a row in its own places of the table. The four calls below are this one, each with its edit.
-    fn edit<S: Sameness<Text>>(&mut self, by: &S, row: usize, edit: Edit<V>) -> Result<(), MapFault>
+    // Edits the map of a row over its places, and keeps what the edit leaves of the row.
+    fn edit_row<S: Sameness<Text>>(
+        &mut self,
+        by: &S,
+        row: usize,
+        edit: Edit<V>,
+    ) -> Result<(), MapFault>
         ensures came { Came (at_place MapFault.NoPlace (edit_on (S.Sameness.alike by.now) self.old.stride edit) (maps_of self.old) row) (maps_of self.old) (maps_of self.new) result }
         ensures outside { OutsideStays self.old.stride row self.old.entries.items self.new.entries.items }
         ensures shape { ShapeStays self.old self.new }
@@ -29,6 +34,20 @@ impl<V: Copy> MapTable<V> {
         let (kept, told) = edit_places(&mut self.entries[start..start + stride], kept, by, edit);
         self.rows[row] = kept;
         told
+    }
+
+    // Edits the map of a row in its own places of the table. The four calls below are this one, each with its edit.
+    pub fn edit<S: Sameness<Text>>(
+        &mut self,
+        by: &S,
+        row: usize,
+        edit: Edit<V>,
+    ) -> Result<(), MapFault>
+        ensures came { Came (at_place MapFault.NoPlace (edit_on (S.Sameness.alike by.now) self.old.stride edit) (maps_of self.old) row) (maps_of self.old) (maps_of self.new) result }
+        ensures outside { OutsideStays self.old.stride row self.old.entries.items self.new.entries.items }
+        ensures shape { ShapeStays self.old self.new }
+    {
+        self.edit_row(by, row, edit)
     }
 
     // Appends an entry to a row, and clears its flag. It compares no keys, so any sameness serves.

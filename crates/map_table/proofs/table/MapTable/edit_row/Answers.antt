@@ -8,7 +8,7 @@ use Rattle.map_table.specs.Tables.{maps_in, OutsideStays}
 use Rattle.map_table.proofs.Rowwise.{fits_set}
 use Rattle.map_table.proofs.RowEdits.{row_missing, row_edited, outside_same, outside_stretch}
 use Rattle.map_table.proofs.Stretches.{stretch_lent, lent_stretch}
-use Rattle.map_table.proofs.table.MapTable.edit.Goals as goal
+use Rattle.map_table.proofs.table.MapTable.edit_row.Goals as goal
 
 pub returns-then-row-len : goal.returns-then-row-len
 returns-then-row-len g c =
