@@ -1,3 +1,9 @@
+pub mod Keys
 pub mod Kinds
+pub mod Model
+pub mod Owners
+pub mod Questions
 pub mod Resources
+pub mod Sights
+pub mod Tags
 pub mod Values

@@ -1,6 +1,12 @@
 // What spans hold and show.
 #![tactic(auto)]
 
+pub mod fields;
+pub mod key;
+pub mod owner;
 pub mod resource;
+pub mod shape;
+pub mod sights;
+pub mod tag;
 pub mod v1;
 pub mod value;

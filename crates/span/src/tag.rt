@@ -2,7 +2,7 @@
 ghost use Rattle.std.specs.Prelude.{◌≡◌};
 ghost use Rattle.span.specs.Tags.{tag_bytes};
 
-use crate::kind::SpanKind;
+use crate::v1::SpanKind;
 use texts::stock::{Stock, Text};
 
 // A tag's text, or the kind whose word it is.
