@@ -1,9 +1,13 @@
+pub mod Edits
 pub mod Keys
 pub mod Kinds
 pub mod Model
 pub mod Owners
 pub mod Questions
+pub mod Readings
 pub mod Resources
 pub mod Sights
+pub mod Tables
 pub mod Tags
 pub mod Values
+pub mod Views

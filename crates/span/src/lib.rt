@@ -1,9 +1,11 @@
 // What spans hold and show.
 #![tactic(auto)]
 
+pub mod edition;
 pub mod fields;
 pub mod key;
 pub mod owner;
+pub mod questions;
 pub mod resource;
 pub mod shape;
 pub mod sights;
