@@ -8,7 +8,7 @@ use Rattle.span.specs.Resources.{resource_shown}
 use Rattle.span.specs.Sights.{tag_read, number_read, sampled_in, priority_in}
 use Rattle.span.specs.Views.{Kind, View, Sight}
 use Rattle.span.specs.Views.Kind.{of_span, of_chunk}
-use Rattle.v04.specs.declared.span.Own.{Own}
+use Rattle.v04.specs.declared.own.Own.{Own}
 
 -- texts go to the first map of a span, meta, and floats to the second, metrics; there is no map for another value, and a chunk has none
 abbrev pub v04_home : Kind → Value → Option ℕ

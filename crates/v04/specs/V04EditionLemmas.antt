@@ -7,7 +7,7 @@ use Rattle.span.specs.declared.key.Key.TheVariants.{SpanSamplingMechanism, Analy
 use Rattle.span.specs.Keys.{key_bytes}
 use Rattle.span.specs.Readings.{Face}
 use Rattle.span.specs.Views.{OffMark}
-use Rattle.v04.specs.declared.span.Own.{Own}
+use Rattle.v04.specs.declared.own.Own.{Own}
 use Rattle.v04.specs.Shown.{v04_view}
 
 -- the keys that a v04 span is asked for are not the one that a mark goes to

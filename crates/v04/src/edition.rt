@@ -12,7 +12,7 @@ ghost use Rattle.v04.specs.V04EditionLemmas.{other_mechanism, other_rate, other_
 
 use crate::fields;
 use crate::maps::V04Maps;
-use crate::span::Own;
+use crate::own::Own;
 use map_table::rows::Row;
 use map_table::table::{Edit, TableFault};
 use span::edition::Edition;

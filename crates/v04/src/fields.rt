@@ -5,7 +5,7 @@ ghost use Rattle.span.specs.Resources.{resource_shown};
 ghost use Rattle.span.specs.Tables.{if_all_known};
 ghost use Rattle.v04.specs.Shown.{v04_view, is_failure};
 
-use crate::span::Own;
+use crate::own::Own;
 use span::fields::Fields;
 use span::resource::resource_normalized;
 use texts::stock::{Stock, StockFault};

@@ -5,6 +5,6 @@
 pub mod edition;
 mod fields;
 pub mod maps;
+pub mod own;
 mod rows;
-pub mod span;
 mod typed;

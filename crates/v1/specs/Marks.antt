@@ -11,7 +11,7 @@ use Rattle.span.specs.Model.{Bytes}
 use Rattle.span.specs.Readings.{Face}
 use Rattle.span.specs.Sights.{tag_read, number_read, sampled_by}
 use Rattle.span.specs.Views.{OffMark, MarkUnseen}
-use Rattle.v1.specs.declared.span.Own.{Own}
+use Rattle.v1.specs.declared.own.Own.{Own}
 use Rattle.v1.specs.Shown.{promoted, v1_view}
 
 -- the two keys that sampling reads are others than a mark's

@@ -19,7 +19,7 @@ use Rattle.span.specs.Resources.{resource_shown}
 use Rattle.span.specs.Sights.{tag_read, number_read, sampled_in}
 use Rattle.span.specs.Views.{View, Sight, ChunkSight}
 use Rattle.v1.specs.declared.chunk.Head.{Head}
-use Rattle.v1.specs.declared.span.Own.{Own}
+use Rattle.v1.specs.declared.own.Own.{Own}
 
 -- a field as a tag, unless it is empty
 abbrev pub unless_empty : Bytes → Text → Option Tag

@@ -5,7 +5,7 @@ ghost use Rattle.texts.specs.Outcomes.{answers};
 ghost use Rattle.v1.specs.Shown.{v1_view};
 
 use crate::chunk::Head;
-use crate::span::Own;
+use crate::own::Own;
 use span::fields::Fields;
 use texts::stock::{Stock, StockFault};
 

@@ -5,5 +5,5 @@ mod checks;
 pub mod chunk;
 pub mod edition;
 pub mod maps;
+pub mod own;
 mod shown;
-pub mod span;

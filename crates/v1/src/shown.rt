@@ -7,7 +7,7 @@ ghost use Rattle.std.specs.Str.{bytes_eq};
 ghost use Rattle.v1.specs.Shown.{promoted, promoted_key, effective_priority, weighed_int};
 
 use crate::chunk::Head;
-use crate::span::Own;
+use crate::own::Own;
 use span::key::Key;
 use span::resource::resource_normalized;
 use span::tag::{Priority, Tag};

@@ -10,8 +10,8 @@ ghost use Rattle.v1.specs.Shown.{promoted};
 ghost use Rattle.v1.specs.Tables.{v1_table};
 
 use crate::maps::V1Maps;
+use crate::own::Own;
 use crate::shown::promoted;
-use crate::span::Own;
 use map_table::rows::Row;
 use span::key::Key;
 use span::owner::Owner;
