@@ -1,6 +1,6 @@
 -- Flags that are right stay right.
 use Rattle.std.proofs.Common.{◌≡◌, ℕ, zero, suc, ◌-◌, Bool, true, false, cond, not, ◌&&◌, ◌||◌, ltb, List, [], ◌∷◌, map, reverse, length, replicate, Some, None, Option, sym, refl, ap, ◌∙◌, subst, arith}
-use Rattle.std.specs.List.{AllByRecursion as All}
+use Rattle.std.specs.List.{AllByRecursion}
 use Rattle.std.specs.Str.{bytes_eq}
 use Rattle.std.proofs.ByRecursion.{All-weaker, All-push, all_kept_by}
 use Rattle.std.proofs.lemmas.Bool.{and_parts}
@@ -39,11 +39,11 @@ module _ (s t : Texts) (keeps : Keeps s t) where
   same_kept : (a b : Text) → s.known a ≡ true → s.known b ≡ true → same_text t a b ≡ same_text s a b
   same_kept a b ka kb = ap (λ x. bytes_eq x (t.bytes b)) (keeps.reads a ka) ∙ ap (λ y. bytes_eq (s.bytes a) y) (keeps.reads b kb)
 
-  holds_kept : {V : Type 0} (es : List (Entry Text V)) (k : Text) → All (λ e. s.known e.key ≡ true) es → s.known k ≡ true → holds_key (same_text t) es k ≡ holds_key (same_text s) es k
+  holds_kept : {V : Type 0} (es : List (Entry Text V)) (k : Text) → AllByRecursion (λ e. s.known e.key ≡ true) es → s.known k ≡ true → holds_key (same_text t) es k ≡ holds_key (same_text s) es k
   holds_kept [] k all kk = refl
   holds_kept (e ∷ es) k all kk = ap (λ x. x || holds_key (same_text t) es k) (same_kept e.key k all.0 kk) ∙ ap (λ x. same_text s e.key k || x) (holds_kept es k all.1 kk)
 
-  distinct-kept : {V : Type 0} (es : List (Entry Text V)) → All (λ e. s.known e.key ≡ true) es → distinct (same_text t) es ≡ distinct (same_text s) es
+  distinct-kept : {V : Type 0} (es : List (Entry Text V)) → AllByRecursion (λ e. s.known e.key ≡ true) es → distinct (same_text t) es ≡ distinct (same_text s) es
   distinct-kept [] all = refl
   distinct-kept (e ∷ es) all = ap (λ x. not x && distinct (same_text t) es) (holds_kept es e.key all.1 all.0) ∙ ap (λ x. not (holds_key (same_text s) es e.key) && x) (distinct-kept es all.1)
 
@@ -61,10 +61,10 @@ module _ (s t : Texts) (keeps : Keeps s t) where
 
 -- what holds of each element still holds after a call on one of them that keeps it
 module _ {X R F : Type 0} (P : X → Type 0) (none : F) (call : X → Outcome X R F) (keep : (x : X) → P x → P (leaves x (call x))) where
-  pub all_at : (xs : List X) (i : ℕ) → All P xs → All P (leaves xs (at_place none call xs i))
+  pub all_at : (xs : List X) (i : ℕ) → AllByRecursion P xs → AllByRecursion P (leaves xs (at_place none call xs i))
   all_at [] i all = tt
-  all_at (x ∷ xs) zero all = subst (All P) (sym (leaves-carry (λ y. y ∷ xs) x (call x))) (keep x all.0, all.1)
-  all_at (x ∷ xs) (suc i) all = subst (All P) (sym (leaves-carry (λ ys. x ∷ ys) xs (at_place none call xs i))) (all.0, all_at xs i all.1)
+  all_at (x ∷ xs) zero all = subst (AllByRecursion P) (sym (leaves-carry (λ y. y ∷ xs) x (call x))) (keep x all.0, all.1)
+  all_at (x ∷ xs) (suc i) all = subst (AllByRecursion P) (sym (leaves-carry (λ ys. x ∷ ys) xs (at_place none call xs i))) (all.0, all_at xs i all.1)
 
 pub leaves-told : {X R F G : Type 0} (g : F → G) (x : X) (o : Outcome X R F) → leaves x (told_as g o) ≡ leaves x o
 leaves-told g x (taken y a) = refl
@@ -74,17 +74,17 @@ pub leaves_after : {X Y R S F : Type 0} (P : X → Type 0) (k : Outcome Y S F) (
 leaves_after P (taken y s) x o before worked = worked
 leaves_after P (refused e) x o before worked = before
 
-all_lasts : {V : Type 0} (same : Text → Text → Bool) (P : Entry Text V → Type 0) (es : List (Entry Text V)) → All P es → All P (lasts same es)
+all_lasts : {V : Type 0} (same : Text → Text → Bool) (P : Entry Text V → Type 0) (es : List (Entry Text V)) → AllByRecursion P es → AllByRecursion P (lasts same es)
 all_lasts same P [] all = tt
 all_lasts same P (e ∷ es) all = by (holds_key same es e.key) (all_lasts same P es all.1)
   where
-    by : (b : Bool) → All P (lasts same es) → All P (cond b (lasts same es) (e ∷ lasts same es))
+    by : (b : Bool) → AllByRecursion P (lasts same es) → AllByRecursion P (cond b (lasts same es) (e ∷ lasts same es))
     by true rest = rest
     by false rest = (all.0, rest)
 
-all_reverse : {X : Type 0} (P : X → Type 0) (xs : List X) → All P xs → All P (reverse xs)
+all_reverse : {X : Type 0} (P : X → Type 0) (xs : List X) → AllByRecursion P xs → AllByRecursion P (reverse xs)
 all_reverse P [] all = tt
-all_reverse P (x ∷ xs) all = subst (All P) (sym (reverse-append (x ∷ []) xs)) (All-push P (reverse xs) x (all_reverse P xs all.1) all.0)
+all_reverse P (x ∷ xs) all = subst (AllByRecursion P) (sym (reverse-append (x ∷ []) xs)) (All-push P (reverse xs) x (all_reverse P xs all.1) all.0)
 
 -- each edit of one map
 module _ (t : Texts) where

@@ -1,6 +1,6 @@
 -- That flags are right: a flagged map has no key twice. Every key is a text that the stock knows, so that this outlasts what is put into the stock.
 use Rattle.std.specs.Prelude.{◌≡◌, true}
-use Rattle.std.specs.List.{AllByRecursion as All}
+use Rattle.std.specs.List.{AllByRecursion}
 use Rattle.texts.specs.declared.stock.Text.{Text}
 use Rattle.texts.specs.Stocks.{Texts, Keeps, same_text}
 use Rattle.vec_map.specs.Maps.{Map}
@@ -10,17 +10,17 @@ use Rattle.span.specs.Model.{Maps, Chunk, Batch}
 
 pub record RightMap (t : Texts) (m : Map Text Value) : Type 0 where
   pub flag : FlagHolds (same_text t) m
-  pub known : All (λ e. t.known e.key ≡ true) m.entries
+  pub known : AllByRecursion (λ e. t.known e.key ≡ true) m.entries
 
 abbrev pub RightMaps : Texts → Maps → Type 0
-RightMaps t ms = All (RightMap t) ms
+RightMaps t ms = AllByRecursion (RightMap t) ms
 
 pub record RightChunk {H O : Type 0} (t : Texts) (c : Chunk H O) : Type 0 where
   pub own : RightMaps t c.maps
-  pub spans : All (λ s. RightMaps t s.maps) c.spans
+  pub spans : AllByRecursion (λ s. RightMaps t s.maps) c.spans
 
 abbrev pub FlagsRight : {H O : Type 0} → Texts → Batch H O → Type 0
-FlagsRight t b = All (RightChunk t) b
+FlagsRight t b = AllByRecursion (RightChunk t) b
 
 -- a call that finds the flags right leaves them right, whatever was put into the stock since
 abbrev pub StayRight : {H O : Type 0} → Texts → Batch H O → Batch H O → Type 0
