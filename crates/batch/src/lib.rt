@@ -2,6 +2,7 @@
 #![tactic(auto)]
 
 pub mod filling;
+pub mod state;
 pub mod working;
 
 pub use batch_tables::fault::BatchFault;

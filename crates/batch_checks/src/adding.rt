@@ -13,12 +13,11 @@ use texts::stock::Text;
 use v1::edition::V1;
 use v04::edition::V04;
 
-// What a making was refused with, if it was.
+// What a making was refused with, if it was. The stocks' tests, in another crate, have the like of their own fault.
 fn untold<E: Edition>(made: Result<Filling<E>, Unmade<BatchFault>>) -> Option<Refusal> {
     match made {
-        Ok(_) => None,
         Err(Unmade::Refused(fault)) => Some(fault.refusal()),
-        Err(Unmade::Memory) => None,
+        Ok(_) | Err(Unmade::Memory) => None,
     }
 }
 
@@ -44,13 +43,10 @@ fn strides(rt: HostRuntime) {
 
 // Adds chunks until one is refused: how many were taken.
 fn chunks_taken(rt: &impl Abort, batch: &mut Filling<V04>, stock: &Pool) -> Result<usize, Fail> {
-    for i in 0..2_000 {
-        if let Err(fault) = batch.add_chunk(stock, ()) {
-            assert_eq!(rt; Some(fault.refusal()), of_batch(5, 0));
-            return Ok(i);
-        }
-    }
-    Err(Fail::new("too many chunks"))
+    let refused = (0..2_000).find_map(|i| Some((i, told(batch.add_chunk(stock, ()))?)));
+    let (taken, refusal) = refused.ok_or_else(|| Fail::new("too many chunks"))?;
+    assert_eq!(rt; Some(refusal), of_batch(5, 0));
+    Ok(taken)
 }
 
 // Whatever room is asked for, there is room for 1,024 chunks at most.
@@ -73,20 +69,15 @@ fn most_chunks(rt: HostRuntime) -> Result<(), Fail> {
 
 // Adds spans until one is refused: how many were taken.
 fn spans_taken(rt: &impl Abort, batch: &mut Filling<V04>, stock: &Pool) -> Result<usize, Fail> {
-    for i in 0..20_000 {
-        if let Err(fault) = batch.add_span(stock, v04_span([EMPTY; 4])) {
-            assert_eq!(rt; Some(fault.refusal()), of_batch(5, 0));
-            return Ok(i);
-        }
-    }
-    Err(Fail::new("too many spans"))
+    let span = v04_span([EMPTY; 4]);
+    let refused = (0..20_000).find_map(|i| Some((i, told(batch.add_span(stock, span))?)));
+    let (taken, refusal) = refused.ok_or_else(|| Fail::new("too many spans"))?;
+    assert_eq!(rt; Some(refusal), of_batch(5, 0));
+    Ok(taken)
 }
 
 fn count_of(batch: &Filling<V04>, chunk: usize) -> Option<u16> {
-    match batch.tables().chunk(chunk) {
-        Some(row) => Some(row.count),
-        None => None,
-    }
+    batch.tables().chunk(chunk).map(|row| row.count)
 }
 
 // A span wants a chunk. Whatever room is asked for, there is room for 16,384 spans at most, and one chunk can have them
@@ -112,15 +103,11 @@ fn most_spans(rt: HostRuntime) -> Result<(), Fail> {
     Ok(())
 }
 
-// Seven texts that the stock does not know, each with a number of its own.
-fn lost_texts() -> [Text; 7] {
-    let mut texts = [LOST; 7];
-    for i in 0..7 {
-        texts[i] = Text {
-            number: 65_536_001 + i as u64,
-        };
-    }
-    texts
+// Texts that the stock does not know, each with a number of its own.
+fn lost_texts<const N: usize>() -> [Text; N] {
+    std::array::from_fn(|i| Text {
+        number: LOST.number + i as u64,
+    })
 }
 
 // The first text that is not known is named, in the order of the fields.
@@ -129,37 +116,43 @@ fn lost_in_v04(rt: HostRuntime) -> Result<(), Fail> {
     let stock = stock(rt.alloc())?;
     let mut batch = batch::<V04>(rt.alloc(), 1, 1, 1)?;
     assert_eq!(rt; told(batch.add_chunk(&stock, ())), None);
-    let [a, b, c, d, ..] = lost_texts();
-    let mut texts = [a, b, c, d];
-    for i in 0..4 {
-        assert_eq!(rt;
-            told(batch.add_span(&stock, v04_span(texts))),
-            unknown(texts[i].number)
-        );
-        texts[i] = EMPTY;
+    let [a, b, c, d] = lost_texts::<4>();
+    let spans = [
+        ([a, b, c, d], unknown(a.number)),
+        ([EMPTY, b, c, d], unknown(b.number)),
+        ([EMPTY, EMPTY, c, d], unknown(c.number)),
+        ([EMPTY, EMPTY, EMPTY, d], unknown(d.number)),
+        ([EMPTY; 4], None),
+    ];
+    for (texts, answer) in spans {
+        assert_eq!(rt; told(batch.add_span(&stock, v04_span(texts))), answer);
     }
-    assert_eq!(rt; told(batch.add_span(&stock, v04_span(texts))), None);
     Ok(())
 }
 
-// The same in v1, where a chunk names a text too.
+// The same in v1, where a chunk names a text too. (Another table: the two spans have not as many texts, and a closure over
+// an array of N texts, which would make the tests one, is not proved.)
 #[test]
 fn lost_in_v1(rt: HostRuntime) -> Result<(), Fail> {
     let stock = stock(rt.alloc())?;
     let mut batch = batch::<V1>(rt.alloc(), 1, 1, 1)?;
-    assert_eq!(rt;
-        told(batch.add_chunk(&stock, v1_head(LOST))),
-        unknown(LOST.number)
-    );
-    assert_eq!(rt; told(batch.add_chunk(&stock, v1_head(EMPTY))), None);
-    let mut texts = lost_texts();
-    for i in 0..7 {
-        assert_eq!(rt;
-            told(batch.add_span(&stock, v1_span(texts))),
-            unknown(texts[i].number)
-        );
-        texts[i] = EMPTY;
+    for (head, answer) in [(LOST, unknown(LOST.number)), (EMPTY, None)] {
+        assert_eq!(rt; told(batch.add_chunk(&stock, v1_head(head))), answer);
     }
-    assert_eq!(rt; told(batch.add_span(&stock, v1_span(texts))), None);
+    let [a, b, c, d, e, f, g] = lost_texts::<7>();
+    let o = EMPTY;
+    let spans = [
+        ([a, b, c, d, e, f, g], unknown(a.number)),
+        ([o, b, c, d, e, f, g], unknown(b.number)),
+        ([o, o, c, d, e, f, g], unknown(c.number)),
+        ([o, o, o, d, e, f, g], unknown(d.number)),
+        ([o, o, o, o, e, f, g], unknown(e.number)),
+        ([o, o, o, o, o, f, g], unknown(f.number)),
+        ([o, o, o, o, o, o, g], unknown(g.number)),
+        ([o; 7], None),
+    ];
+    for (texts, answer) in spans {
+        assert_eq!(rt; told(batch.add_span(&stock, v1_span(texts))), answer);
+    }
     Ok(())
 }

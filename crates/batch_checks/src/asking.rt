@@ -1,6 +1,6 @@
 // Questions on one span.
 use crate::samples::{
-    EMPTY, LOST, batch, of_batch, stock, told, unknown, v1_head, v1_span, v04_span,
+    EMPTY, LOST, of_batch, one_chunk, stock, told, unknown, v1_head, v1_span, v04_span,
 };
 use batch::working::Working;
 use batch::{BatchFault, Question, Reply};
@@ -19,19 +19,14 @@ const ONE: u64 = 0x3ff0_0000_0000_0000;
 
 // A v1 batch of one span, with this `env`.
 fn v1_single(rt: &impl Abort, heap: Global, stock: &Pool, env: Text) -> Result<Working<V1>, Fail> {
-    let mut batch = batch::<V1>(heap, 8, 1, 1)?;
-    assert_eq!(rt; told(batch.add_chunk(stock, v1_head(EMPTY))), None);
     let texts = [EMPTY, EMPTY, EMPTY, EMPTY, env, EMPTY, EMPTY];
-    assert_eq!(rt; told(batch.add_span(stock, v1_span(texts))), None);
+    let batch = one_chunk(rt, heap, stock, 8, v1_head(EMPTY), &[v1_span(texts)])?;
     Ok(batch.close())
 }
 
 // The same in v04.
 fn v04_single(rt: &impl Abort, heap: Global, stock: &Pool) -> Result<Working<V04>, Fail> {
-    let mut batch = batch::<V04>(heap, 8, 1, 1)?;
-    assert_eq!(rt; told(batch.add_chunk(stock, ())), None);
-    assert_eq!(rt; told(batch.add_span(stock, v04_span([EMPTY; 4]))), None);
-    Ok(batch.close())
+    Ok(one_chunk(rt, heap, stock, 8, (), &[v04_span([EMPTY; 4])])?.close())
 }
 
 fn flag(answer: Result<Reply, BatchFault>) -> Option<bool> {

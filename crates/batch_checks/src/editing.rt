@@ -1,11 +1,10 @@
 // Editing the maps of spans and chunks.
 use crate::samples::{
-    EMPTY, LOST, batch, of_batch, of_map, stock, told, unknown, v1_head, v1_span, v04_span,
+    EMPTY, LOST, of_batch, of_map, one_chunk, stock, told, unknown, v1_head, v1_span, v04_span,
 };
 use batch::filling::Filling;
 use batch::working::Working;
 use pool::Pool;
-use span::edition::Edition;
 use span::owner::Owner;
 use span::value::Value;
 use std::alloc::Global;
@@ -22,11 +21,7 @@ fn v04_pair(
     stock: &Pool,
     stride: usize,
 ) -> Result<Filling<V04>, Fail> {
-    let mut batch = batch::<V04>(heap, stride, 1, 2)?;
-    assert_eq!(rt; told(batch.add_chunk(stock, ())), None);
-    assert_eq!(rt; told(batch.add_span(stock, v04_span([EMPTY; 4]))), None);
-    assert_eq!(rt; told(batch.add_span(stock, v04_span([EMPTY; 4]))), None);
-    Ok(batch)
+    one_chunk(rt, heap, stock, stride, (), &[v04_span([EMPTY; 4]); 2])
 }
 
 // The same in v1.
@@ -36,11 +31,8 @@ fn v1_pair(
     stock: &Pool,
     stride: usize,
 ) -> Result<Filling<V1>, Fail> {
-    let mut batch = batch::<V1>(heap, stride, 1, 2)?;
-    assert_eq!(rt; told(batch.add_chunk(stock, v1_head(EMPTY))), None);
-    assert_eq!(rt; told(batch.add_span(stock, v1_span([EMPTY; 7]))), None);
-    assert_eq!(rt; told(batch.add_span(stock, v1_span([EMPTY; 7]))), None);
-    Ok(batch)
+    let spans = [v1_span([EMPTY; 7]); 2];
+    one_chunk(rt, heap, stock, stride, v1_head(EMPTY), &spans)
 }
 
 // A v04 span takes texts and floats, each in a map of its own, and nothing else; a chunk takes nothing.

@@ -6,6 +6,7 @@ use span::edition::Edition;
 use span::fields::{Fields, TraceId};
 use span::v1::SpanKind;
 use std::alloc::Global;
+use std::process::Abort;
 use std::test::Fail;
 use texts::refusal::{Fault, Layer, Refusal};
 use texts::stock::Text;
@@ -18,10 +19,7 @@ pub(crate) const EMPTY: Text = Text { number: 0 };
 pub(crate) const LOST: Text = Text { number: 65_536_001 };
 
 pub(crate) fn stock(heap: Global) -> Result<Pool, Fail> {
-    match Pool::new(heap, 1_000) {
-        Ok(pool) => Ok(pool),
-        Err(_) => Err(Fail::new("no stock")),
-    }
+    Pool::new(heap, 1_000).map_err(|_| Fail::new("no stock"))
 }
 
 pub(crate) fn batch<E: Edition>(
@@ -30,43 +28,50 @@ pub(crate) fn batch<E: Edition>(
     chunks: usize,
     spans: usize,
 ) -> Result<Filling<E>, Fail> {
-    match Filling::begin(heap, stride, Room { chunks, spans }) {
-        Ok(batch) => Ok(batch),
-        Err(_) => Err(Fail::new("no batch")),
+    Filling::begin(heap, stride, Room { chunks, spans }).map_err(|_| Fail::new("no batch"))
+}
+
+// A batch of one chunk with these spans, whose maps have `stride` places.
+pub(crate) fn one_chunk<E: Edition>(
+    rt: &impl Abort,
+    heap: Global,
+    stock: &Pool,
+    stride: usize,
+    head: E::Head,
+    spans: &[Fields<E::Own>],
+) -> Result<Filling<E>, Fail> {
+    let mut batch = batch::<E>(heap, stride, 1, spans.len())?;
+    assert_eq!(rt; told(batch.add_chunk(stock, head)), None);
+    for fields in spans {
+        assert_eq!(rt; told(batch.add_span(stock, *fields)), None);
     }
+    Ok(batch)
 }
 
 // What a call was refused with, if it was.
 pub(crate) fn told<T: Drop>(answer: Result<T, BatchFault>) -> Option<Refusal> {
-    match answer {
-        Ok(_) => None,
-        Err(fault) => Some(fault.refusal()),
-    }
+    answer.err().map(|fault| fault.refusal())
+}
+
+fn refused(number: u8, layer: Layer, place: u64) -> Option<Refusal> {
+    Some(Refusal {
+        number,
+        layer,
+        place,
+    })
 }
 
 pub(crate) fn of_batch(number: u8, place: u64) -> Option<Refusal> {
-    Some(Refusal {
-        number,
-        layer: Layer::Batch,
-        place,
-    })
+    refused(number, Layer::Batch, place)
 }
 
 pub(crate) fn of_map(number: u8, place: u64) -> Option<Refusal> {
-    Some(Refusal {
-        number,
-        layer: Layer::Map,
-        place,
-    })
+    refused(number, Layer::Map, place)
 }
 
 // The stock does not know the text with this number.
 pub(crate) fn unknown(place: u64) -> Option<Refusal> {
-    Some(Refusal {
-        number: 6,
-        layer: Layer::Stock,
-        place,
-    })
+    refused(6, Layer::Stock, place)
 }
 
 // The fields of a v1 span with these texts in their order.

@@ -1,6 +1,6 @@
 -- One chunk more, and one span more, in flat tables and in the batch that they hold.
-use Rattle.std.proofs.Common.{◌≡◌, ℕ, zero, suc, ◌+◌, ◌<◌, ◌≤◌, true, List, [], ◌∷◌, ◌++◌, length, get_or, take, drop, set, Result, sym, refl, ap, ◌∙◌, arith}
-use Rattle.std.proofs.lemmas.List.{length-append, length-drop, take-append-le, drop-append-le, take_all}
+use Rattle.std.proofs.Common.{◌≡◌, ℕ, zero, suc, ◌+◌, ◌<◌, ◌≤◌, List, [], ◌∷◌, ◌++◌, length, get_or, take, drop, set, Result, sym, refl, ap, ◌∙◌, arith}
+use Rattle.std.proofs.lemmas.List.{length-append, length-set, length-drop, take-append-le, drop-append-le, take_all}
 use Rattle.std.proofs.lemmas.Bool.{cond-true, lt-ltb}
 use Rattle.texts.specs.Outcomes.{Came, leaves}
 use Rattle.span.specs.declared.fields.Fields.{Fields}
@@ -14,10 +14,9 @@ use Rattle.batch_tables.specs.declared.limits.ChunkRow.{ChunkRow}
 use Rattle.batch_tables.specs.declared.limits.Room.{Room}
 use Rattle.batch_tables.specs.Batches.{with_batch, to_last}
 use Rattle.batch_tables.specs.Flat.{spans_of, chunks_of}
-use Rattle.batch_tables.specs.Held.{same_shape}
+use Rattle.batch_tables.specs.Held.{held, wanted_shape, Together}
 use Rattle.batch_tables.specs.Limits.{total}
-use Rattle.batch_tables.proofs.Begun.{same_agreed}
-use Rattle.batch_tables.proofs.Edited.{held_with, agreed, length-spans}
+use Rattle.batch_tables.proofs.Edited.{length-spans}
 
 -- counts
 module _ {H : Type 0} where
@@ -79,50 +78,54 @@ module _ {H O : Type 0} where
       ∙ ap (λ ds. record { head = x.head; maps = ms; spans = take x.count ss } ∷ ds) (chunks-last (y ∷ cs) i (ns ∷ rows) (drop x.count ss) s c d (omega arith) (omega (arith, length-drop x.count ss)) more same)
 
 -- a shape with one row more
-abbrev pub chunk_more : Shape → Shape
+abbrev chunk_more : Shape → Shape
 chunk_more w = record { stride = w.stride; chunk_room = w.chunk_room; span_room = w.span_room; chunks = w.chunks + 1; spans = w.spans }
 
-abbrev pub span_more : Shape → Shape
+abbrev span_more : Shape → Shape
 span_more w = record { stride = w.stride; chunk_room = w.chunk_room; span_room = w.span_room; chunks = w.chunks; spans = w.spans + 1 }
 
-module _ {H O : Type 0} (v : View H O) (cs : List (ChunkRow H)) (fs : List (Fields O)) (stride : ℕ) (room : Room) (w : Shape) (T T' : Table) (sound : same_shape (shape_of T) w ≡ true) where
-  -- the row is there
-  chunk_row_there : {r : Result (Unit {0}) _} → Came (chunk_row_added v T) T T' r → w.chunks < w.chunk_room → T' ≡ table.with_chunks T (T.chunks ++ (blank_maps v of_chunk ∷ []))
-  chunk_row_there came lt =
-      let a = agreed (shape_of T) w sound in
-      came.left ∙ ap (leaves T) (cond-true _ _ _ (lt-ltb (length T.chunks) T.chunk_room (omega (arith, a.chunks, a.chunk_room))))
+module _ {H O : Type 0} (v : View H O) {cs : List (ChunkRow H)} {fs : List (Fields O)} {stride : ℕ} {room reserved : Room} {T : Table} (T' : Table) (one : Together cs fs stride room reserved T) where
+  module _ {r : Result (Unit {0}) _} (came : Came (chunk_row_added v T) T T' r) (lt : length cs < room.chunks) (h : H) where
+    abbrev chunk_rows : List Maps
+    chunk_rows = T.chunks ++ (blank_maps v of_chunk ∷ [])
 
-  span_row_there : {r : Result (Unit {0}) _} → Came (span_row_added v T) T T' r → w.spans < w.span_room → T' ≡ table.with_spans T (T.spans ++ (blank_maps v of_span ∷ []))
-  span_row_there came lt =
-      let a = agreed (shape_of T) w sound in
-      came.left ∙ ap (leaves T) (cond-true _ _ _ (lt-ltb (length T.spans) T.span_room (omega (arith, a.spans, a.span_room))))
+    chunk_row_there : T' ≡ table.with_chunks T chunk_rows
+    chunk_row_there = came.left ∙ ap (leaves T) (cond-true _ _ _ (lt-ltb (length T.chunks) T.chunk_room (omega (arith, ap (λ w. w.chunks) one.reach, ap (λ w. w.chunk_room) one.reach))))
 
-  pub chunk_added : {r : Result (Unit {0}) _} → Came (chunk_row_added v T) T T' r → w.chunks ≡ length cs → w.chunks < w.chunk_room → (w' : Shape) → w' ≡ chunk_more w → (h : H)
-      → held_with (cs ++ (record { count = 0; head = h } ∷ [])) fs stride room w' T' ≡ with_batch (held_with cs fs stride room w T) ((held_with cs fs stride room w T).batch ++ (record { head = h; maps = blank_maps v of_chunk; spans = [] } ∷ []))
-  chunk_added came all lt w' is h =
-      let a = agreed (shape_of T) w sound in
-      let ms = blank_maps v of_chunk in
-      let rows = T.chunks ++ (ms ∷ []) in
-      let cs' = cs ++ (record { count = 0; head = h } ∷ []) in
-      let more : length rows ≡ w.chunks + 1 = omega (arith, length-append T.chunks (ms ∷ []), a.chunks) in
-      ap (λ t. held_with cs' fs stride room w' t) (chunk_row_there came lt)
-      ∙ ap (λ x. held_with cs' fs stride room x (table.with_chunks T rows)) is
-      ∙ ap (λ b. record { batch = chunks_of cs' rows (spans_of fs T.spans); stride = stride; room = room; sound = b })
-      (same_agreed (shape_of (table.with_chunks T rows)) (chunk_more w) (record { stride = a.stride; chunk_room = a.chunk_room; span_room = a.span_room; chunks = more; spans = a.spans }) ∙ sym sound)
-      ∙ ap (λ b. record { batch = b; stride = stride; room = room; sound = same_shape (shape_of T) w }) (chunks-push cs T.chunks (spans_of fs T.spans) h ms (a.chunks ∙ all))
+    abbrev more_chunks : List (ChunkRow H)
+    more_chunks = cs ++ (record { count = 0; head = h } ∷ [])
 
-  pub span_added : {r : Result (Unit {0}) _} → Came (span_row_added v T) T T' r → w.spans ≡ length fs → w.spans < w.span_room → total cs ≡ length fs → (w' : Shape) → w' ≡ span_more w → (f : Fields O) (i : ℕ) (c d : ChunkRow H) → suc i ≡ length cs → c.count ≡ (get_or cs i d).count + 1 → c.head ≡ (get_or cs i d).head
-      → held_with (set cs i c) (fs ++ (f ∷ [])) stride room w' T' ≡ with_batch (held_with cs fs stride room w T) (to_last (record { fields = f; maps = blank_maps v of_span }) (held_with cs fs stride room w T).batch)
-  span_added came all lt counts w' is f i c d last more same =
-      let a = agreed (shape_of T) w sound in
-      let ms = blank_maps v of_span in
-      let rows = T.spans ++ (ms ∷ []) in
-      let fs' = fs ++ (f ∷ []) in
-      let longer : length rows ≡ w.spans + 1 = omega (arith, length-append T.spans (ms ∷ []), a.spans) in
-      ap (λ t. held_with (set cs i c) fs' stride room w' t) (span_row_there came lt)
-      ∙ ap (λ x. held_with (set cs i c) fs' stride room x (table.with_spans T rows)) is
-      ∙ ap (λ b. record { batch = chunks_of (set cs i c) T.chunks (spans_of fs' rows); stride = stride; room = room; sound = b })
-      (same_agreed (shape_of (table.with_spans T rows)) (span_more w) (record { stride = a.stride; chunk_room = a.chunk_room; span_room = a.span_room; chunks = a.chunks; spans = longer }) ∙ sym sound)
-      ∙ ap (λ ss. record { batch = chunks_of (set cs i c) T.chunks ss; stride = stride; room = room; sound = same_shape (shape_of T) w }) (spans-push fs T.spans f ms (a.spans ∙ all))
-      ∙ ap (λ b. record { batch = b; stride = stride; room = room; sound = same_shape (shape_of T) w })
-      (chunks-last cs i T.chunks (spans_of fs T.spans) (record { fields = f; maps = ms }) c d last (counts ∙ sym (length-spans fs T.spans)) more same)
+    pub chunk_reach : shape_of T' ≡ wanted_shape more_chunks fs stride room
+    chunk_reach =
+        ap shape_of chunk_row_there ∙ ap (λ n. record { stride = T.stride; chunk_room = T.chunk_room; span_room = T.span_room; chunks = n; spans = length T.spans }) (length-append T.chunks (blank_maps v of_chunk ∷ [])) ∙ ap chunk_more one.reach
+        ∙ ap (λ n. record { stride = stride; chunk_room = room.chunks; span_room = room.spans; chunks = n; spans = length fs }) (sym (length-append cs (record { count = 0; head = h } ∷ [])))
+
+    pub chunk_added : held more_chunks fs stride room T' ≡ with_batch (held cs fs stride room T) ((held cs fs stride room T).batch ++ (record { head = h; maps = blank_maps v of_chunk; spans = [] } ∷ []))
+    chunk_added =
+        ap (λ t. held more_chunks fs stride room t) chunk_row_there
+        ∙ ap (λ b. record { batch = b; stride = stride; room = room }) (chunks-push cs T.chunks (spans_of fs T.spans) h (blank_maps v of_chunk) (ap (λ w. w.chunks) one.reach))
+
+  module _ {r : Result (Unit {0}) _} (came : Came (span_row_added v T) T T' r) (lt : length fs < room.spans) (f : Fields O) (i : ℕ) (c d : ChunkRow H) where
+    abbrev span_rows : List Maps
+    span_rows = T.spans ++ (blank_maps v of_span ∷ [])
+
+    span_row_there : T' ≡ table.with_spans T span_rows
+    span_row_there = came.left ∙ ap (leaves T) (cond-true _ _ _ (lt-ltb (length T.spans) T.span_room (omega (arith, ap (λ w. w.spans) one.reach, ap (λ w. w.span_room) one.reach))))
+
+    abbrev more_spans : List (Fields O)
+    more_spans = fs ++ (f ∷ [])
+
+    pub span_reach : shape_of T' ≡ wanted_shape (set cs i c) more_spans stride room
+    span_reach =
+        ap shape_of span_row_there ∙ ap (λ n. record { stride = T.stride; chunk_room = T.chunk_room; span_room = T.span_room; chunks = length T.chunks; spans = n }) (length-append T.spans (blank_maps v of_span ∷ [])) ∙ ap span_more one.reach
+        ∙ ap (λ n. record { stride = stride; chunk_room = room.chunks; span_room = room.spans; chunks = length cs; spans = n }) (sym (length-append fs (f ∷ [])))
+        ∙ ap (λ n. record { stride = stride; chunk_room = room.chunks; span_room = room.spans; chunks = n; spans = length more_spans }) (sym (length-set cs i c))
+
+    pub span_added : suc i ≡ length cs → c.count ≡ (get_or cs i d).count + 1 → c.head ≡ (get_or cs i d).head
+        → held (set cs i c) more_spans stride room T' ≡ with_batch (held cs fs stride room T) (to_last (record { fields = f; maps = blank_maps v of_span }) (held cs fs stride room T).batch)
+    span_added last more same =
+        let ms = blank_maps v of_span in
+        ap (λ t. held (set cs i c) more_spans stride room t) span_row_there
+        ∙ ap (λ ss. record { batch = chunks_of (set cs i c) T.chunks ss; stride = stride; room = room }) (spans-push fs T.spans f ms (ap (λ w. w.spans) one.reach))
+        ∙ ap (λ b. record { batch = b; stride = stride; room = room })
+        (chunks-last cs i T.chunks (spans_of fs T.spans) (record { fields = f; maps = ms }) c d last (one.adds ∙ sym (length-spans fs T.spans)) more same)

@@ -1,5 +1,5 @@
 -- When a chunk or a span can be added, and what refuses it.
-use Rattle.std.proofs.Common.{◌≡◌, ℕ, ◌<◌, ◌≤◌, Bool, true, false, cond, ltb, List, [], ◌∷◌, ◌++◌, length, take, drop, IfOk, Ok, Err, Result, sym, refl, ap, ◌∙◌, arith}
+use Rattle.std.proofs.Common.{◌≡◌, ℕ, ◌<◌, ◌≤◌, cond, ltb, List, [], ◌∷◌, ◌++◌, length, take, drop, IfOk, Ok, Err, Result, sym, refl, ap, ◌∙◌, arith}
 use Rattle.std.proofs.lemmas.List.{length-drop, take-append-drop}
 use Rattle.std.proofs.lemmas.Bool.{lt-ltb, le-ltb}
 use Rattle.texts.specs.declared.stock.StockFault.{StockFault}
@@ -10,7 +10,7 @@ use Rattle.span.specs.Model.{Maps, Span, Batch}
 use Rattle.batch_tables.specs.declared.fault.BatchFault.{BatchFault}
 use Rattle.batch_tables.specs.declared.fault.BatchFault.TheVariants as fault
 use Rattle.batch_tables.specs.declared.limits.ChunkRow.{ChunkRow}
-use Rattle.batch_tables.specs.Batches.{told_as, after, if_sound, if_any, all_spans, retold, outcome_of}
+use Rattle.batch_tables.specs.Batches.{told_as, after, if_any, all_spans, retold, outcome_of}
 use Rattle.batch_tables.specs.Flat.{spans_of, chunks_of}
 use Rattle.batch_tables.proofs.Edited.{length-spans}
 use Rattle.batch_tables.specs.Limits.{total}
@@ -21,13 +21,6 @@ all_spans-of [] rows [] e = refl
 all_spans-of [] rows (s ∷ ss) e = absurd (omega arith)
 all_spans-of (c ∷ cs) [] ss e = ap (λ xs. take c.count ss ++ xs) (all_spans-of cs [] (drop c.count ss) (omega (arith, length-drop c.count ss))) ∙ take-append-drop c.count ss
 all_spans-of (c ∷ cs) (ms ∷ rows) ss e = ap (λ xs. take c.count ss ++ xs) (all_spans-of cs rows (drop c.count ss) (omega (arith, length-drop c.count ss))) ∙ take-append-drop c.count ss
-
-module _ {X : Type 0} (o : Outcome X (Unit {0}) BatchFault) (sound : Bool) where
-  pub stop_broken : sound ≡ false → if_sound sound o ≡ refused fault.Broken
-  stop_broken e = ap (λ b. if_sound b o) e
-
-  pub go_sound : sound ≡ true → if_sound sound o ≡ o
-  go_sound e = ap (λ b. if_sound b o) e
 
 -- a call that wants room, and then known texts
 module _ {X : Type 0} (x : X) (k : Outcome (Unit {0}) (Unit {0}) StockFault) where
@@ -46,10 +39,6 @@ module _ {X : Type 0} (x : X) (k : Outcome (Unit {0}) (Unit {0}) StockFault) whe
       ap (λ b. cond b (after (told_as fault.Stock k) (taken x tt)) (refused fault.Full)) (lt-ltb n room lt) ∙ known k ∙ ap (λ y. outcome_of (retold fault.Stock y) x) (sym e) ∙ ap (λ y. outcome_of y x) (sym told)
 
 -- a call that wants a last chunk
-pub stop_empty : {H O X : Type 0} (o : Outcome X (Unit {0}) BatchFault) (b : Batch H O) → length b ≡ 0 → if_any b o ≡ refused (fault.NoChunk 0)
-stop_empty o [] e = refl
-stop_empty o (c ∷ cs) e = absurd (omega arith)
-
 pub go_some : {H O X : Type 0} (o : Outcome X (Unit {0}) BatchFault) (b : Batch H O) → 0 < length b → if_any b o ≡ o
 go_some o [] e = absurd (omega arith)
 go_some o (c ∷ cs) e = refl

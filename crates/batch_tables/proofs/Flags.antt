@@ -31,7 +31,7 @@ use Rattle.span.specs.Views.{View}
 use Rattle.span.specs.Views.Kind.{of_span, of_chunk}
 use Rattle.batch_tables.specs.declared.fault.BatchFault.{BatchFault}
 use Rattle.batch_tables.specs.declared.fault.BatchFault.TheVariants as fault
-use Rattle.batch_tables.specs.Batches.{Held, with_batch, told_as, after, if_sound, with_maps, with_spans, with_own_maps, at_span, to_last, value_texts, edit_texts, edit_known, edit_at, edit_batch, add_chunk, add_span, if_any, all_spans}
+use Rattle.batch_tables.specs.Batches.{Held, with_batch, told_as, after, with_maps, with_spans, with_own_maps, at_span, to_last, value_texts, edit_texts, edit_known, edit_at, edit_batch, add_chunk, add_span, if_any, all_spans}
 use Rattle.batch_tables.specs.Flags.{RightMap, RightMaps, RightChunk, FlagsRight}
 
 -- a stock that keeps all that an earlier one had
@@ -177,15 +177,8 @@ module _ {H O : Type 0} (v : View H O) (t : Texts) where
   right_edit_at places e (at.Chunk p) b r = all_at (RightChunk t) (fault.NoChunk p) _ (right_chunk_call places p e) b p r
 
   -- a call on a batch
-  pub right_sound : (h : Held H O) (o : Outcome (Batch H O) (Unit {0}) BatchFault) → FlagsRight t h.batch → FlagsRight t (leaves h.batch o) → FlagsRight t (leaves h (if_sound h.sound (carry (with_batch h) o))).batch
-  right_sound h o before worked = by h.sound
-    where
-      by : (b : Bool) → FlagsRight t (leaves h (if_sound b (carry (with_batch h) o))).batch
-      by true = subst (λ x. FlagsRight t x.batch) (sym (leaves-carry (with_batch h) h.batch o)) worked
-      by false = before
-
   pub right_edit_batch : (e : Edit Value) (o : Owner) (h : Held H O) → FlagsRight t h.batch → FlagsRight t (leaves h (edit_batch v t e o h)).batch
-  right_edit_batch e o h r = right_sound h (edit_at v t h.stride e o h.batch) r (right_edit_at h.stride e o h.batch r)
+  right_edit_batch e o h r = subst (λ x. FlagsRight t x.batch) (sym (leaves-carry (with_batch h) h.batch (edit_at v t h.stride e o h.batch))) (right_edit_at h.stride e o h.batch r)
 
   -- blank maps are right
   right_blank : (n : ℕ) → RightMaps t (replicate n blank)
@@ -202,23 +195,17 @@ module _ {H O : Type 0} (v : View H O) (t : Texts) where
   right_unless h b k true before worked = leaves_after (λ x. FlagsRight t x.batch) k h (taken (with_batch h b) tt) before worked
   right_unless h b k false before worked = before
 
-  right_if_sound : (h : Held H O) (o : Outcome (Held H O) (Unit {0}) BatchFault) (sound : Bool) → FlagsRight t h.batch → FlagsRight t (leaves h o).batch → FlagsRight t (leaves h (if_sound sound o)).batch
-  right_if_sound h o true before worked = worked
-  right_if_sound h o false before worked = before
-
   right_if_any : (h : Held H O) (b : Batch H O) (o : Outcome (Held H O) (Unit {0}) BatchFault) → FlagsRight t h.batch → FlagsRight t (leaves h o).batch → FlagsRight t (leaves h (if_any b o)).batch
   right_if_any h [] o before worked = before
   right_if_any h (c ∷ cs) o before worked = worked
 
   pub right_add_chunk : (head : H) (h : Held H O) → FlagsRight t h.batch → FlagsRight t (leaves h (add_chunk v t head h)).batch
   right_add_chunk head h r =
-      right_if_sound h _ h.sound r
-      (right_unless h _ (told_as fault.Stock (if_all_known t (v.chunk_texts head))) (ltb (length h.batch) h.room.chunks) r
-      (All-push (RightChunk t) h.batch (record { head = head; maps = blank_maps v of_chunk; spans = [] }) r (record { own = right_blank (v.arity of_chunk); spans = tt })))
+      right_unless h _ (told_as fault.Stock (if_all_known t (v.chunk_texts head))) (ltb (length h.batch) h.room.chunks) r
+      (All-push (RightChunk t) h.batch (record { head = head; maps = blank_maps v of_chunk; spans = [] }) r (record { own = right_blank (v.arity of_chunk); spans = tt }))
 
   pub right_add_span : (f : Fields O) (h : Held H O) → FlagsRight t h.batch → FlagsRight t (leaves h (add_span v t f h)).batch
   right_add_span f h r =
-      right_if_sound h _ h.sound r
-      (right_if_any h h.batch _ r
+      right_if_any h h.batch _ r
       (right_unless h _ (told_as fault.Stock (if_all_known t (v.span_texts f))) (ltb (length (all_spans h.batch)) h.room.spans) r
-      (right_to_last (record { fields = f; maps = blank_maps v of_span }) h.batch (right_blank (v.arity of_span)) r)))
+      (right_to_last (record { fields = f; maps = blank_maps v of_span }) h.batch (right_blank (v.arity of_span)) r))

@@ -10,7 +10,7 @@ use Rattle.batch_tables.specs.declared.limits.ChunkRow.{ChunkRow}
 use Rattle.batch_tables.specs.Batches.{told_as, at_span, with_maps, with_own_maps}
 use Rattle.batch_tables.specs.Flat.{spans_of, chunks_of}
 use Rattle.batch_tables.specs.Limits.{total}
-use Rattle.batch_tables.proofs.Outcomes.{carry-carry}
+use Rattle.span.proofs.Carried.{carry-carry}
 use Rattle.batch_tables.proofs.Places.{at_front, at_back, carry_same}
 
 -- a call on the maps of one span

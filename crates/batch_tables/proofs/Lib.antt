@@ -3,10 +3,11 @@ pub mod Places
 pub mod Flats
 pub mod Edited
 pub mod Missing
-pub mod Begun
+pub mod Joined
 pub mod Added
 pub mod Checked
 pub mod Asked
 pub mod Read
+pub mod Holding
 pub mod Counted
 pub mod Flags

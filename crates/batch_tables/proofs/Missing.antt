@@ -1,9 +1,8 @@
--- A call on tables that do not hold together, or on an owner that is not there, is refused for that.
-use Rattle.std.proofs.Common.{◌≡◌, ℕ, suc, ◌≤◌, true, false, List, [], ◌∷◌, length, drop, sym, refl, ap, ◌∙◌, arith}
+-- A call on an owner that is not there is refused for that.
+use Rattle.std.proofs.Common.{◌≡◌, ℕ, suc, ◌≤◌, List, [], ◌∷◌, length, drop, sym, refl, ap, ◌∙◌, arith}
 use Rattle.texts.specs.Outcomes.{carry}
 use Rattle.texts.specs.Outcomes.Outcome.{refused}
 use Rattle.texts.specs.Stocks.{Texts}
-use Rattle.vec_map.specs.Entries.{entry_at}
 use Rattle.vec_map.proofs.Steps.{entry_missed}
 use Rattle.map_table.specs.declared.table.edits.Edit.{Edit}
 use Rattle.span.specs.declared.fields.Fields.{Fields}
@@ -14,7 +13,7 @@ use Rattle.span.specs.Views.{View}
 use Rattle.batch_tables.specs.declared.fault.BatchFault.TheVariants as fault
 use Rattle.batch_tables.specs.declared.limits.ChunkRow.{ChunkRow}
 use Rattle.batch_tables.specs.declared.query.Question.{Question}
-use Rattle.batch_tables.specs.Batches.{Held, with_batch, if_sound, all_spans, edit_at, edit_batch}
+use Rattle.batch_tables.specs.Batches.{Held, with_batch, all_spans, edit_at, edit_batch}
 use Rattle.batch_tables.specs.Queries.{asked_of, query_batch}
 use Rattle.batch_tables.specs.Flat.{spans_of, chunks_of}
 use Rattle.batch_tables.specs.Limits.{total}
@@ -28,27 +27,18 @@ length-chunks (c ∷ cs) [] ss = ap suc (length-chunks cs [] (drop c.count ss))
 length-chunks (c ∷ cs) (ms ∷ rows) ss = ap suc (length-chunks cs rows (drop c.count ss))
 
 module _ {H O : Type 0} (v : View H O) (t : Texts) (e : Edit Value) (h : Held H O) where
-  pub edit_broken : (o : _) → h.sound ≡ false → edit_batch v t e o h ≡ refused fault.Broken
-  edit_broken o broken = ap (λ b. if_sound b (carry (with_batch h) (edit_at v t h.stride e o h.batch))) broken
-
-  module _ (cs : List (ChunkRow H)) (crows rows : List Maps) (fs : List (Fields O)) (is : h.batch ≡ chunks_of cs crows (spans_of fs rows)) (sound : h.sound ≡ true) where
+  module _ (cs : List (ChunkRow H)) (crows rows : List Maps) (fs : List (Fields O)) (is : h.batch ≡ chunks_of cs crows (spans_of fs rows)) where
     pub edit_no_span : (p : ℕ) → total cs ≡ length fs → length fs ≤ p → edit_batch v t e (at.Span p) h ≡ refused (fault.NoSpan p)
     edit_no_span p counts le =
-        ap (λ b. if_sound b (carry (with_batch h) (edit_at v t h.stride e (at.Span p) h.batch))) sound
-        ∙ ap (λ b. carry (with_batch h) (edit_at v t h.stride e (at.Span p) b)) is
+        ap (λ b. carry (with_batch h) (edit_at v t h.stride e (at.Span p) b)) is
         ∙ ap (carry (with_batch h)) (span_place (fault.NoSpan p) _ cs crows (spans_of fs rows) p (counts ∙ sym (length-spans fs rows)) ∙ ap (carry (chunks_of cs crows)) (none_past (fault.NoSpan p) _ (spans_of fs rows) p (omega (arith, length-spans fs rows))))
 
     pub edit_no_chunk : (p : ℕ) → length cs ≤ p → edit_batch v t e (at.Chunk p) h ≡ refused (fault.NoChunk p)
     edit_no_chunk p le =
-        ap (λ b. if_sound b (carry (with_batch h) (edit_at v t h.stride e (at.Chunk p) h.batch))) sound
-        ∙ ap (λ b. carry (with_batch h) (edit_at v t h.stride e (at.Chunk p) b)) is
+        ap (λ b. carry (with_batch h) (edit_at v t h.stride e (at.Chunk p) b)) is
         ∙ ap (carry (with_batch h)) (none_past (fault.NoChunk p) _ (chunks_of cs crows (spans_of fs rows)) p (omega (arith, length-chunks cs crows (spans_of fs rows))))
 
 -- a question on a span that is not there
 module _ {H O : Type 0} (v : View H O) (t : Texts) (q : Question) (h : Held H O) where
-  pub query_broken : (p : ℕ) → h.sound ≡ false → query_batch v t p q h ≡ refused fault.Broken
-  query_broken p broken = ap (λ b. if_sound b (asked_of v t p q (entry_at (all_spans h.batch) p))) broken
-
-  pub query_no_span : (p : ℕ) → h.sound ≡ true → length (all_spans h.batch) ≤ p → query_batch v t p q h ≡ refused (fault.NoSpan p)
-  query_no_span p sound le =
-      ap (λ b. if_sound b (asked_of v t p q (entry_at (all_spans h.batch) p))) sound ∙ ap (asked_of v t p q) (sym (entry_missed (all_spans h.batch) p le))
+  pub query_no_span : (p : ℕ) → length (all_spans h.batch) ≤ p → query_batch v t p q h ≡ refused (fault.NoSpan p)
+  query_no_span p le = ap (asked_of v t p q) (sym (entry_missed (all_spans h.batch) p le))

@@ -4,10 +4,6 @@ use Rattle.texts.specs.Outcomes.{Outcome, carry, leaves, answers, Came}
 use Rattle.texts.specs.Outcomes.Outcome.{taken, refused}
 use Rattle.batch_tables.specs.Batches.{told_as, after, retold}
 
-pub carry-carry : {X Y Z R F : Type 0} (f : Y → Z) (g : X → Y) (o : Outcome X R F) → carry f (carry g o) ≡ carry (λ x. f (g x)) o
-carry-carry f g (taken x a) = refl
-carry-carry f g (refused e) = refl
-
 pub told-carry : {X Y R F G : Type 0} (g : F → G) (f : X → Y) (o : Outcome X R F) → told_as g (carry f o) ≡ carry f (told_as g o)
 told-carry g f (taken x a) = refl
 told-carry g f (refused e) = refl

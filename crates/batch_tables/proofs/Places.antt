@@ -3,7 +3,7 @@ use Rattle.std.proofs.Common.{◌≡◌, ℕ, zero, suc, ◌-◌, ◌<◌, ◌�
 use Rattle.texts.specs.Outcomes.{Outcome, carry, at_place}
 use Rattle.texts.specs.Outcomes.Outcome.{taken, refused}
 use Rattle.batch_tables.specs.Batches.{told_as, after}
-use Rattle.batch_tables.proofs.Outcomes.{carry-carry}
+use Rattle.span.proofs.Carried.{carry-carry}
 
 module _ {X R F : Type 0} (none : F) (call : X → Outcome X R F) where
   pub none_past : (xs : List X) (p : ℕ) → length xs ≤ p → at_place none call xs p ≡ refused none

@@ -1,5 +1,5 @@
 -- A batch, and what each call makes of it: what it leaves and answers, or on what ground it is refused. Grounds are tried in the order of their numbers.
-use Rattle.std.specs.Prelude.{ℕ, ◌-◌, Bool, cond, List, [], ◌∷◌, ◌++◌, length, Ok, Err, Result, nat_lt}
+use Rattle.std.specs.Prelude.{ℕ, ◌-◌, cond, List, [], ◌∷◌, ◌++◌, length, Ok, Err, Result, nat_lt}
 use Rattle.texts.specs.declared.stock.Text.{Text}
 use Rattle.texts.specs.Outcomes.{Outcome, carry, at_place}
 use Rattle.texts.specs.Outcomes.Outcome.{taken, refused}
@@ -22,15 +22,14 @@ use Rattle.batch_tables.specs.declared.fault.BatchFault.{BatchFault}
 use Rattle.batch_tables.specs.declared.fault.BatchFault.TheVariants as fault
 use Rattle.batch_tables.specs.declared.limits.Room.{Room}
 
--- `sound` says that the tables hold together
+-- a batch, the places of each of its maps, and for how many chunks and spans there is room
 pub record Held (H O : Type 0) : Type 0 where
   pub batch : Batch H O
   pub stride : ℕ
   pub room : Room
-  pub sound : Bool
 
 abbrev pub with_batch : {H O : Type 0} → Held H O → Batch H O → Held H O
-with_batch h b = record { batch = b; stride = h.stride; room = h.room; sound = h.sound }
+with_batch h b = record { batch = b; stride = h.stride; room = h.room }
 
 -- an outcome, or an answer, with its refusal told as another
 abbrev pub told_as : {X R F G : Type 0} → (F → G) → Outcome X R F → Outcome X R G
@@ -50,10 +49,6 @@ outcome_of (Err f) x = refused f
 abbrev pub after : {X Y R S F : Type 0} → Outcome Y S F → Outcome X R F → Outcome X R F
 after (taken y s) o = o
 after (refused f) o = refused f
-
--- a call on tables that hold together
-abbrev pub if_sound : {X R : Type 0} → Bool → Outcome X R BatchFault → Outcome X R BatchFault
-if_sound sound o = cond sound o (refused fault.Broken)
 
 module _ {O : Type 0} where
   abbrev pub with_maps : Span O → Maps → Span O
@@ -115,21 +110,19 @@ module _ {H O : Type 0} (v : View H O) (t : Texts) where
   edit_at stride e (at.Chunk p) b = at_place (fault.NoChunk p) (λ c. carry (with_own_maps c) (told_as (fault.Map p) (edit_known stride of_chunk e c.maps))) b p
 
   abbrev pub edit_batch : Edit Value → Owner → Held H O → Outcome (Held H O) (Unit {0}) BatchFault
-  edit_batch e o h = if_sound h.sound (carry (with_batch h) (edit_at h.stride e o h.batch))
+  edit_batch e o h = carry (with_batch h) (edit_at h.stride e o h.batch)
 
   -- one chunk more, with no spans yet, wants room for it and its texts known
   abbrev pub add_chunk : H → Held H O → Outcome (Held H O) (Unit {0}) BatchFault
   add_chunk head h =
-      if_sound h.sound
-      (cond (nat_lt (length h.batch) h.room.chunks)
+      cond (nat_lt (length h.batch) h.room.chunks)
       (after (told_as fault.Stock (if_all_known t (v.chunk_texts head))) (taken (with_batch h (h.batch ++ (record { head = head; maps = blank_maps v of_chunk; spans = [] } ∷ []))) tt))
-      (refused fault.Full))
+      (refused fault.Full)
 
   -- one span more, in the last chunk, wants a chunk, room for it and its texts known
   abbrev pub add_span : Fields O → Held H O → Outcome (Held H O) (Unit {0}) BatchFault
   add_span f h =
-      if_sound h.sound
-      (if_any h.batch
+      if_any h.batch
       (cond (nat_lt (length (all_spans h.batch)) h.room.spans)
       (after (told_as fault.Stock (if_all_known t (v.span_texts f))) (taken (with_batch h (to_last (record { fields = f; maps = blank_maps v of_span }) h.batch)) tt))
-      (refused fault.Full)))
+      (refused fault.Full))

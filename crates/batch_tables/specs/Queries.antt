@@ -16,7 +16,7 @@ use Rattle.batch_tables.specs.declared.query.Question.{Question}
 use Rattle.batch_tables.specs.declared.query.Question.TheVariants as ask
 use Rattle.batch_tables.specs.declared.query.Reply.{Reply}
 use Rattle.batch_tables.specs.declared.query.Reply.TheVariants as reply
-use Rattle.batch_tables.specs.Batches.{Held, told_as, after, if_sound, all_spans}
+use Rattle.batch_tables.specs.Batches.{Held, told_as, after, all_spans}
 
 -- the key that a question names
 abbrev pub question_texts : Question → List Text
@@ -45,4 +45,4 @@ module _ {H O : Type 0} (v : View H O) (t : Texts) where
   asked_of p q (Some s) = asked_known t q (v.sees t (face t s))
 
   abbrev pub query_batch : ℕ → Question → Held H O → Outcome (Unit {0}) Reply BatchFault
-  query_batch p q h = if_sound h.sound (asked_of p q (entry_at (all_spans h.batch) p))
+  query_batch p q h = asked_of p q (entry_at (all_spans h.batch) p)

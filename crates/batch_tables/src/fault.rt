@@ -1,13 +1,13 @@
 // Why a call on a batch is refused.
 ghost use Rattle.std.specs.Prelude.{◌≡◌};
-ghost use Rattle.batch_tables.specs.declared.fault.BatchFault.TheVariants.{Stock as carried, Map as owned};
+ghost use Rattle.batch_tables.specs.declared.fault.BatchFault.TheVariants.{Stock as carried, Map as owned_by};
 ghost use Rattle.batch_tables.specs.Refusals.{batch_refusal};
 
 use texts::refusal::{Fault, Layer, Refusal};
 use texts::stock::StockFault;
 use vec_map::fault::MapFault;
 
-#[derive(Clone, Copy)]
+#[derive(Clone, Copy, Debug)]
 pub enum BatchFault {
     // The tables are too short for the counts, the counts do not add up, or a map passes the stride.
     Broken,
@@ -27,21 +27,7 @@ pub enum BatchFault {
     Map(usize, MapFault),
 }
 
-// What a map refused, with the place of the span or chunk that has it.
-#[derive(Clone, Copy)]
-pub struct OwnedFault {
-    pub place: usize,
-    pub fault: MapFault,
-}
-
-impl From<OwnedFault> for BatchFault {
-    ghost from_gives = { λ e r. r ≡ owned e.place e.fault };
-
-    fn from(owned: OwnedFault) -> BatchFault {
-        BatchFault::Map(owned.place, owned.fault)
-    }
-}
-
+// By hand, since its contract names the case.
 impl From<StockFault> for BatchFault {
     ghost from_gives = { λ e r. r ≡ carried e };
 
@@ -52,7 +38,7 @@ impl From<StockFault> for BatchFault {
 
 // What a map refused, told of its owner; a stock's refusal names its own place.
 fn owned_refusal(place: usize, fault: MapFault) -> Refusal
-    ensures { result ≡ batch_refusal (owned place fault) }
+    ensures { result ≡ batch_refusal (owned_by place fault) }
 {
     match fault {
         MapFault::Stock(inner) => inner.refusal(),

@@ -13,8 +13,9 @@ pub struct Room {
     pub spans: usize,
 }
 
-// What a batch has of a chunk: how many spans, and what the edition has of it.
-#[derive(Clone, Copy)]
+// What a batch has of a chunk: how many spans, and what the edition has of it. A count and no `Vec` of its spans, since the
+// memory for the spans of all chunks is taken at the making.
+#[derive(Clone, Copy, Debug)]
 pub struct ChunkRow<H> {
     pub count: u16,
     pub head: H,

@@ -3,7 +3,7 @@ use crate::limits::{ChunkRow, Room};
 use span::edition::Edition;
 use span::fields::Fields;
 
-// Chunks, spans and maps, with the places of each map and the room that is reserved. Nothing is said of whether they
+// As flat as the batch has them: chunks, spans and maps, with the places of each map and the room that is reserved. Nothing is said of whether they
 // hold together.
 #[derive(Drop)]
 pub struct Parts<E: Edition> {

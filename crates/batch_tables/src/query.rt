@@ -4,7 +4,8 @@ use texts::stock::Text;
 
 // A tag or a number by its key, or whether the span is a top level, is measured, or is a snapshot of one that has not
 // ended.
-#[derive(Clone, Copy)]
+// A value and no closure, since what is answered to each is a definition over the value.
+#[derive(Clone, Copy, Debug)]
 pub enum Question {
     Tag(Text),
     Number(Text),
@@ -14,7 +15,7 @@ pub enum Question {
 }
 
 // What is answered: a tag or none, a number or none, or yes or no.
-#[derive(Clone, Copy)]
+#[derive(Clone, Copy, Debug)]
 pub enum Reply {
     Tag(Option<Tag>),
     Number(Option<f64>),

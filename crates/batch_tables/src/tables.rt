@@ -1,10 +1,9 @@
-// The tables of a batch.
-ghost use Rattle.std.specs.Prelude.{◌≡◌, ◌≤◌, vec_len, vec_capacity};
-ghost use Rattle.batch_tables.specs.Limits.{most_chunks, most_spans, total};
-
+// The tables of a batch. Where a public function is only a call of one below it with the same contract, it is there so that a
+// wrong body of it is refused where it stands.
 use crate::limits::{ChunkRow, Room};
 use span::edition::Edition;
 use span::fields::Fields;
+use std::marker::Model;
 
 mod adding;
 mod bounds;
@@ -22,11 +21,18 @@ pub struct BatchTables<E: Edition> {
     maps: E::Maps,
     stride: usize,
     room: Room,
-    ghost adds: { total chunks.items ≡ vec_len spans },
-    ghost few_chunks: { room.chunks ≤ most_chunks },
-    ghost few_spans: { room.spans ≤ most_spans },
-    ghost chunks_within: { vec_len chunks ≤ room.chunks },
-    ghost spans_within: { vec_len spans ≤ room.spans },
-    ghost chunks_reserved: { room.chunks ≤ vec_capacity chunks },
-    ghost spans_reserved: { room.spans ≤ vec_capacity spans },
+}
+
+// Tables are seen as the batch that they hold. There are none that do not hold together.
+impl<E: Edition> Model for BatchTables<E> {
+    ghost use Rattle.std.specs.Prelude.{vec_items, vec_capacity};
+    ghost use Rattle.batch_tables.specs.Batches.{Held};
+    ghost use Rattle.batch_tables.specs.Held.{held, Together};
+
+    ghost Value = { Held E.Head E.Own };
+
+    ghost view = { λ b. held (vec_items b.chunks) (vec_items b.spans) b.stride b.room (E.Edition.table b.maps) };
+
+    ghost invariant = { λ b.
+        Together (vec_items b.chunks) (vec_items b.spans) b.stride b.room (record { chunks = vec_capacity b.chunks; spans = vec_capacity b.spans }) (E.Edition.table b.maps) };
 }

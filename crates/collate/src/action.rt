@@ -1,8 +1,11 @@
 // What a line asks for.
-use crate::words::{LineFault, Words, expected};
+use crate::fault::LineFault;
+use crate::lines::Line;
+use crate::words::Words;
 use session::ValueWord;
 use std::alloc::Global;
 
+// A value and no closure, since a line is read whole before anything is done.
 #[derive(Drop)]
 pub enum Action {
     Insert(Vec<u8>, ValueWord),
@@ -27,49 +30,43 @@ impl Action {
     }
 }
 
-// The stock that the first line names.
+// The stock that the first line names. No `Result`, since neither is a failure.
 #[derive(Clone, Copy)]
 pub enum Choice {
     Pool { bytes: usize },
     Dictionary { bytes: usize, entries: usize },
 }
 
-pub fn read_action(heap: Global, line: &[u8]) -> Result<Action, LineFault> {
+pub fn read_action(heap: Global, line: Line<'_>) -> Result<Action, LineFault<'_>> {
     let mut words = Words::of(heap, line);
     let action = match words.next_word() {
-        b"insert" => {
-            let key = words.text()?;
-            let value = words.value()?;
-            Action::Insert(key, value)
-        }
+        b"insert" => Action::Insert(words.text()?, words.value()?),
         b"remove" => Action::Remove(words.text()?),
         b"dedup" => Action::Dedup,
         b"claim" => Action::Claim,
         b"get" => Action::Get(words.text()?),
         b"dump" => Action::Dump,
-        other => return Err(expected(heap, "insert, remove, dedup, claim, get or dump", other)),
+        other => return Err(line.expected("insert, remove, dedup, claim, get or dump", other)),
     };
     words.end()?;
     Ok(action)
 }
 
-pub fn read_choice(heap: Global, line: &[u8]) -> Result<Choice, LineFault> {
+pub fn read_choice(heap: Global, line: Line<'_>) -> Result<Choice, LineFault<'_>> {
     let mut words = Words::of(heap, line);
-    let first = words.next_word();
-    if first != b"stock".as_slice() {
-        return Err(expected(heap, "a stock line", first));
+    match words.next_word() {
+        b"stock" => {}
+        other => return Err(line.expected("a stock line", other)),
     }
     let choice = match words.next_word() {
-        b"pool" => {
-            let bytes = words.number()?;
-            Choice::Pool { bytes }
-        }
-        b"dictionary" => {
-            let bytes = words.number()?;
-            let entries = words.number()?;
-            Choice::Dictionary { bytes, entries }
-        }
-        other => return Err(expected(heap, "pool or dictionary", other)),
+        b"pool" => Choice::Pool {
+            bytes: words.number()?,
+        },
+        b"dictionary" => Choice::Dictionary {
+            bytes: words.number()?,
+            entries: words.number()?,
+        },
+        other => return Err(line.expected("pool or dictionary", other)),
     };
     words.end()?;
     Ok(choice)

@@ -5,8 +5,8 @@ use session::ValueWord;
 use span::value::Value;
 use std::alloc::Global;
 use texts::stock::{Stock, StockFault, Text};
-use vec_map::entry::Entry;
 use vec_map::fault::MapFault;
+use vec_map::view::MapView;
 
 // The map is the one row of a table.
 #[derive(Drop)]
@@ -33,40 +33,33 @@ impl<S: Stock + Drop> Keeper<S> {
     // Does what a line asks for. A text is put into the stock where it first stands.
     pub fn act(&mut self, action: &Action) -> Result<Answer, MapFault> {
         match action {
-            Action::Insert(key, value) => self.insert(key, value),
-            Action::Remove(key) => self.remove(key),
-            Action::Dedup => {
-                self.maps.dedup(&self.stock, 0)?;
-                Ok(Answer::Taken)
-            }
-            Action::Claim => {
-                self.maps.claim(&self.stock, 0)?;
-                Ok(Answer::Taken)
-            }
-            Action::Get(key) => self.reading(key),
-            Action::Dump => Ok(Answer::Follows),
+            Action::Insert(key, value) => self.insert(key, value)?,
+            Action::Remove(key) => self.remove(key)?,
+            Action::Dedup => self.maps.dedup(&self.stock, 0)?,
+            Action::Claim => self.maps.claim(&self.stock, 0)?,
+            Action::Get(key) => return Ok(Answer::Reading(self.reading(key)?)),
+            Action::Dump => return Ok(Answer::Follows),
         }
+        Ok(Answer::Taken)
     }
 
-    fn insert(&mut self, key: &[u8], value: &ValueWord) -> Result<Answer, MapFault> {
+    fn insert(&mut self, key: &[u8], value: &ValueWord) -> Result<(), MapFault> {
         let key = self.stock.put(key)?;
         let value = self.value(value)?;
-        self.maps.insert(0, key, value)?;
-        Ok(Answer::Taken)
+        self.maps.insert(0, key, value)
     }
 
-    fn remove(&mut self, key: &[u8]) -> Result<Answer, MapFault> {
+    fn remove(&mut self, key: &[u8]) -> Result<(), MapFault> {
         let key = self.stock.put(key)?;
-        self.maps.remove(&self.stock, 0, key)?;
-        Ok(Answer::Taken)
+        self.maps.remove(&self.stock, 0, key)
     }
 
-    fn reading(&mut self, key: &[u8]) -> Result<Answer, MapFault> {
+    fn reading(&mut self, key: &[u8]) -> Result<Option<Value>, StockFault> {
         let key = self.stock.put(key)?;
-        Ok(Answer::Reading(self.maps.get(&self.stock, 0, key)))
+        Ok(self.maps.get(&self.stock, 0, key))
     }
 
-    // The value that a word means, with its text put into the stock.
+    // The value that a word means, with its text put into the stock, so that it is no `From`.
     fn value(&mut self, word: &ValueWord) -> Result<Value, StockFault> {
         Ok(match word {
             ValueWord::Text(bytes) => Value::Text(self.stock.put(bytes)?),
@@ -79,15 +72,11 @@ impl<S: Stock + Drop> Keeper<S> {
         })
     }
 
-    pub fn len(&self) -> usize {
-        self.maps.row_len(0).unwrap_or(0)
-    }
-
-    pub fn is_deduped(&self) -> bool {
-        self.maps.row_deduped(0).unwrap_or(false)
-    }
-
-    pub fn entry(&self, place: usize) -> Option<Entry<Text, Value>> {
-        self.maps.entry(0, place)
+    // The map, to be read. Its row stands from the making on.
+    pub fn map(&self) -> MapView<'_, Text, Value> {
+        self.maps.row(0).unwrap_or(MapView {
+            entries: &[],
+            deduped: false,
+        })
     }
 }

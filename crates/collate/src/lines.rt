@@ -1,8 +1,27 @@
-// The lines of the input that ask for something, counted.
+// The lines of the input, numbered from 1.
 ghost use Rattle.std.specs.Prelude.{◌≡◌, ◌<◌, MatchOption};
+ghost use Rattle.std.specs.Iterator.{at_most};
 ghost use Rattle.collate.specs.Unread.{unread};
 
+use crate::fault::LineFault;
 use session::cut_line;
+
+#[derive(Clone, Copy)]
+pub struct Line<'a> {
+    pub number: u64,
+    pub text: &'a [u8],
+}
+
+impl<'a> Line<'a> {
+    // That the line was to have one thing, and had another there.
+    pub fn expected(self, what: &'static str, found: &'a [u8]) -> LineFault<'a> {
+        LineFault::Expected {
+            line: self.number,
+            what,
+            found,
+        }
+    }
+}
 
 #[derive(Clone, Copy)]
 pub struct Lines<'a> {
@@ -18,35 +37,29 @@ impl<'a> Lines<'a> {
         }
     }
 
-    // The number of the line that was read last, counted from 1.
-    pub fn number(&self) -> u64 {
-        self.number
+    // An empty line, in the place of the one that was read last.
+    pub fn end(&self) -> Line<'a> {
+        Line {
+            number: self.number,
+            text: &[],
+        }
     }
+}
 
-    // The next line, also one that is to be passed over.
-    pub fn next_line(&mut self) -> Option<&'a [u8]>
-        ensures { MatchOption result (unread self.new.rest ≡ 0) (λ _. unread self.new.rest < unread self.old.rest) }
-    {
-        let text = self.rest?;
-        let (line, more) = cut_line(text);
+impl<'a> Iterator for Lines<'a> {
+    type Item = Line<'a>;
+
+    ghost next_gives = { λ old line new. MatchOption line (unread new.rest ≡ 0) (λ _. unread new.rest < unread old.rest) };
+
+    ghost remaining = { λ lines. at_most (unread lines.rest) };
+
+    fn next(&mut self) -> Option<Line<'a>> {
+        let (text, more) = cut_line(self.rest?);
         self.rest = more;
         self.number = self.number.saturating_add(1);
-        Some(line)
-    }
-}
-
-// What a line is: a title, which is printed, or nothing, or something to do.
-#[derive(Clone, Copy)]
-pub enum Kind {
-    Title,
-    Blank,
-    Action,
-}
-
-pub fn kind_of(line: &[u8]) -> Kind {
-    match line {
-        [b'#', b'#', ..] => Kind::Title,
-        [] | [b'#', ..] => Kind::Blank,
-        _ => Kind::Action,
+        Some(Line {
+            number: self.number,
+            text,
+        })
     }
 }

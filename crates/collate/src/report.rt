@@ -1,50 +1,45 @@
 // Writes what lines came to, each answer a line.
 use crate::keeper::{Answer, Keeper};
-use session::{write_flag, write_float, write_signed, write_text, write_unsigned};
+use session::{
+    ValueKind, write_flag, write_float, write_kind, write_signed, write_text, write_unsigned,
+};
 use span::value::Value;
 use std::alloc::AllocError;
 use texts::refusal::Fault;
 use texts::stock::Stock;
 
-// A value as two words, the letter of its kind first.
+// A value as two words, its kind first.
 fn write_value<S: Stock>(out: &mut Vec<u8>, stock: &S, value: Value) -> Result<(), AllocError> {
+    write_kind(out, kind_of(value))?;
+    out.extend_from_slice(b" ")?;
     match value {
-        Value::Text(text) => {
-            out.extend_from_slice(b"t ")?;
-            write_text(out, stock.bytes(text))
+        Value::Text(text) => write_text(out, stock.bytes(text)),
+        Value::Float(bits) => write_float(out, bits),
+        Value::Int(number) => write_signed(out, number),
+        Value::Bool(flag) => write_flag(out, flag),
+        Value::Bytes(number) | Value::KeyValue(number) | Value::List(number) => {
+            write_unsigned(out, number)
         }
-        Value::Float(bits) => {
-            out.extend_from_slice(b"f ")?;
-            write_float(out, bits)
-        }
-        Value::Int(number) => {
-            out.extend_from_slice(b"i ")?;
-            write_signed(out, number)
-        }
-        Value::Bool(flag) => {
-            out.extend_from_slice(b"b ")?;
-            write_flag(out, flag)
-        }
-        Value::Bytes(number) => write_host(out, b"y ", number),
-        Value::KeyValue(number) => write_host(out, b"k ", number),
-        Value::List(number) => write_host(out, b"l ", number),
     }
 }
 
-fn write_host(out: &mut Vec<u8>, kind: &[u8], number: u64) -> Result<(), AllocError> {
-    out.extend_from_slice(kind)?;
-    write_unsigned(out, number)
+// No `From`, since both types are of other crates.
+fn kind_of(value: Value) -> ValueKind {
+    match value {
+        Value::Text(_) => ValueKind::Text,
+        Value::Float(_) => ValueKind::Float,
+        Value::Int(_) => ValueKind::Int,
+        Value::Bool(_) => ValueKind::Bool,
+        Value::Bytes(_) => ValueKind::Bytes,
+        Value::KeyValue(_) => ValueKind::KeyValue,
+        Value::List(_) => ValueKind::List,
+    }
 }
 
 // The number, the layer and the place of a refusal.
 pub fn write_refusal<F: Fault>(out: &mut Vec<u8>, fault: &F) -> Result<(), AllocError> {
-    out.extend_from_slice(b" refused ")?;
-    write_unsigned(out, u64::from(fault.number()))?;
-    out.extend_from_slice(b" ")?;
-    out.extend_from_slice(fault.layer().word().as_bytes())?;
-    out.extend_from_slice(b" ")?;
-    write_unsigned(out, fault.place())?;
-    out.extend_from_slice(b"\n")
+    let line = format!(in *out.allocator(); " refused {}\n", fault.refusal())?;
+    out.extend_from_slice(line.as_bytes())
 }
 
 // What an action answered; a dump is followed by the map.
@@ -70,23 +65,13 @@ pub fn write_answer<S: Stock + Drop>(
 
 // The map: its flag, how many entries it has, and each entry.
 pub fn write_map<S: Stock + Drop>(out: &mut Vec<u8>, keeper: &Keeper<S>) -> Result<(), AllocError> {
+    let map = keeper.map();
     out.extend_from_slice(b"map attributes ")?;
-    write_flag(out, keeper.is_deduped())?;
+    write_flag(out, map.deduped)?;
     out.extend_from_slice(b" ")?;
-    write_unsigned(out, keeper.len() as u64)?;
+    write_unsigned(out, map.entries.len() as u64)?;
     out.extend_from_slice(b"\n")?;
-    for place in 0..keeper.len() {
-        write_entry(out, keeper, place)?;
-    }
-    Ok(())
-}
-
-fn write_entry<S: Stock + Drop>(
-    out: &mut Vec<u8>,
-    keeper: &Keeper<S>,
-    place: usize,
-) -> Result<(), AllocError> {
-    if let Some(entry) = keeper.entry(place) {
+    for entry in map.entries {
         out.extend_from_slice(b"e ")?;
         write_text(out, keeper.stock.bytes(entry.key))?;
         out.extend_from_slice(b" ")?;

@@ -3,6 +3,7 @@ use Rattle.std.proofs.Common.{◌≡◌, ℕ, suc, ◌+◌, ◌<◌, ◌≤◌, 
 use Rattle.std.proofs.lemmas.Slice.Eq.{bytes_eq-Decides}
 use Rattle.std.proofs.lemmas.List.{length-append, length-drop, length-take, take-append-le, drop-append-le, drop_at, take_all, take_at, map-append, get_or_append_left, get_or_push, get_or-set_same, get_or-set_other}
 use Rattle.std.proofs.lemmas.Bool.{cases_Bool, cases_lt, cases_eq, leb-true, le-leb, and_parts, and_from, eq-eqb, ne_eqb}
+use Rattle.std.proofs.lemmas.List.Sums.{fold-append}
 use Rattle.std.specs.Option.{option_map, option_or}
 use Rattle.std.specs.Str.{bytes_eq}
 use Rattle.dictionary.specs.declared.slot.Slot.{Slot}
@@ -42,8 +43,7 @@ within-grows n m (r ∷ rs) s all le fits =
 
 -- the texts
 pub total-push : (ts : List (List ℕ)) (t : List ℕ) → total (ts ++ t ∷ []) ≡ total ts + length t
-total-push [] t = omega arith
-total-push (u ∷ us) t = omega (arith, total-push us t)
+total-push ts t = fold-append (λ a u. a + length u) 0 ts (t ∷ [])
 
 -- bytes that are not held differ from each text
 other_first : (u t : List ℕ) (us : List (List ℕ)) → place_of (u ∷ us) t ≡ None → (place_of us t ≡ None) × (bytes_eq u t ≡ false)

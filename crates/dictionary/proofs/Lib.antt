@@ -1,4 +1,3 @@
-pub mod Slots
 pub mod Chains
 pub mod Grows
 pub mod Held

@@ -1,5 +1,6 @@
 -- How a dictionary finds a text: texts are spread over buckets by their bytes, and each bucket is a chain from its latest text back.
-use Rattle.std.specs.Prelude.{◌≡◌, ℕ, ◌+◌, ◌*◌, ◌/◌, ◌%◌, ◌^◌, ◌<◌, Bool, true, ◌&&◌, List, [], ◌∷◌, map, length, get_or, take, drop, None, Option, bit_xor, nat_eq, nat_le, slice_index_or}
+use Rattle.std.specs.Prelude.{◌≡◌, ℕ, ◌+◌, ◌*◌, ◌/◌, ◌%◌, ◌^◌, ◌<◌, Bool, List, [], map, length, get_or, take, drop, fold, None, Option, bit_xor, nat_eq, nat_le, slice_index_or}
+use Rattle.std.specs.List.{list_all}
 use Rattle.dictionary.specs.declared.slot.Slot.{Slot}
 use Rattle.dictionary.specs.Places.{last_place}
 
@@ -12,13 +13,11 @@ held_texts area slots = map (slot_bytes area) slots
 
 -- every entry lies within so many bytes
 abbrev pub slots_within : ℕ → List Slot → Bool
-slots_within n [] = true
-slots_within n (s ∷ ss) = nat_le (s.start + s.len) n && slots_within n ss
+slots_within n ss = list_all (λ s. nat_le (s.start + s.len) n) ss
 
 -- the bytes mixed into one number, one after the other
 unfoldable pub mixed : ℕ → List ℕ → ℕ
-mixed h [] = h
-mixed h (b ∷ bs) = mixed ((bit_xor h b * 1099511628211) % 2 ^ 64) bs
+mixed h bs = fold (λ m b. (bit_xor m b * 1099511628211) % 2 ^ 64) h bs
 
 -- the bucket of a text, of so many
 unfoldable pub bucket_of : ℕ → List ℕ → ℕ

@@ -1,5 +1,5 @@
 -- A dictionary: a list of texts, none twice. A text's number is its place in the list.
-use Rattle.std.specs.Prelude.{ℕ, ◌+◌, Bool, true, cond, not, ◌&&◌, ◌||◌, List, [], ◌∷◌, ◌++◌, map, length, is_some, Some, None, Option, nat_le, nat_lt, slice_index_or}
+use Rattle.std.specs.Prelude.{ℕ, ◌+◌, Bool, true, cond, not, ◌&&◌, ◌||◌, List, [], ◌∷◌, ◌++◌, map, length, sum_by, is_some, Some, None, Option, nat_le, nat_lt, slice_index_or}
 use Rattle.std.specs.Str.{bytes_eq}
 use Rattle.texts.specs.declared.stock.Text.{Text}
 use Rattle.texts.specs.declared.stock.StockFault.{StockFault}
@@ -16,8 +16,7 @@ most_entries = 65536
 
 -- the bytes of all texts together
 abbrev pub total : List (List ℕ) → ℕ
-total [] = 0
-total (t ∷ ts) = length t + total ts
+total ts = sum_by length ts
 
 -- the place of the text that has these bytes
 abbrev pub place_of : List (List ℕ) → List ℕ → Option ℕ

@@ -1,7 +1,7 @@
 // Making a dictionary, and its calls.
 ghost use Rattle.std.specs.Prelude.{◌≡◌, ◌+◌, ◌<◌, ◌≤◌, true, [], ◌∷◌, ◌++◌, length, replicate, None, vec_len, vec_capacity, slice_index_or};
 ghost use Rattle.dictionary.specs.Buckets.{slot_bytes};
-ghost use Rattle.dictionary.specs.Dictionaries.{most_entries, total, first_entries, place_of, fits_beside, fits_in, dictionary_texts, dictionary_room, dictionary_put};
+ghost use Rattle.dictionary.specs.Dictionaries.{most_entries, total, first_entries, place_of, fits_in, dictionary_texts, dictionary_room, dictionary_put};
 ghost use Rattle.dictionary.specs.Held.{texts_in};
 ghost use Rattle.dictionary.specs.Makings.{DictionaryMade};
 ghost use Rattle.texts.specs.Outcomes.{Came};
@@ -37,39 +37,6 @@ fn bytes_of(area: &[u8], slot: Slot) -> &[u8]
     &area[start..start + slot.len as usize]
 }
 
-// A dictionary that holds the well-known texts, over empty tables that have room for them.
-fn begin(
-    mut area: Vec<u8>,
-    mut slots: Vec<Slot>,
-    mut heads: Vec<Option<u32>>,
-    limit: usize,
-) -> Dictionary
-    requires no_bytes { area.items ≡ [] }
-    requires no_slots { slots.items ≡ [] }
-    requires no_heads { heads.items ≡ replicate (vec_len heads) None }
-    requires bytes { (total first_entries ≤ limit) × ((limit ≤ vec_capacity area) × (limit ≤ most_bytes)) }
-    requires entries { (length first_entries ≤ vec_len heads) × ((vec_len heads ≤ vec_capacity slots) × (vec_len heads ≤ most_entries)) }
-    ensures texts { texts_in result ≡ first_entries }
-    ensures limit { result.limit ≡ limit }
-    ensures entries { vec_len result.heads ≡ vec_len heads }
-{
-    let first = WellKnown::TopLevel.bytes();
-    let which = bucket(first, heads.len());
-    extend_reserved(&mut area, first);
-    slots.push_reserved(Slot {
-        start: 0,
-        len: first.len() as u32,
-        next: None,
-    });
-    heads[which] = Some(0);
-    Dictionary {
-        area,
-        slots,
-        heads,
-        limit,
-    }
-}
-
 impl Dictionary {
     // A dictionary that uses at most `bytes` bytes and `entries` entries, with the well-known texts in it.
     pub fn new(heap: Global, bytes: usize, entries: usize) -> Result<Dictionary, Unmade<StockFault>>
@@ -77,22 +44,26 @@ impl Dictionary {
     {
         let limit = bytes.min(MOST_BYTES);
         let buckets = entries.min(MOST_ENTRIES);
-        if limit < WellKnown::TopLevel.bytes().len() || buckets < 1 {
+        let first = WellKnown::TopLevel.bytes();
+        if limit < first.len() || buckets < 1 {
             return Err(Unmade::Refused(StockFault::NoSpace));
         }
-        let area = Vec::with_capacity(heap, limit)?;
-        let slots = Vec::with_capacity(heap, buckets)?;
-        let heads = vec![in heap; None; buckets]?;
-        Ok(begin(area, slots, heads, limit))
-    }
-
-    // The bytes of the entry at a place.
-    fn entry_bytes(&self, place: usize) -> &[u8]
-        requires { place < vec_len self.now.slots }
-        ensures { result.now ≡ slice_index_or (texts_in self.now) place [] }
-    {
-        let slot = self.slots[place];
-        bytes_of(&self.area, slot)
+        let mut area = Vec::with_capacity(heap, limit)?;
+        extend_reserved(&mut area, first);
+        let mut slots = Vec::with_capacity(heap, buckets)?;
+        slots.push_reserved(Slot {
+            start: 0,
+            len: first.len() as u32,
+            next: None,
+        });
+        let mut heads = vec![in heap; None; buckets]?;
+        heads[bucket(first, buckets)] = Some(0);
+        Ok(Dictionary {
+            area,
+            slots,
+            heads,
+            limit,
+        })
     }
 
     // How many texts there are.
@@ -106,42 +77,39 @@ impl Dictionary {
     fn text_at(&self, place: usize) -> &[u8]
         ensures { result.now ≡ slice_index_or (texts_in self.now) place [] }
     {
-        if place >= self.slots.len() {
-            return &[];
+        match self.slots.get(place) {
+            Some(slot) => bytes_of(&self.area, *slot),
+            None => &[],
         }
-        self.entry_bytes(place)
     }
 
-    // The place of the entry that has these bytes: the chain of their bucket is walked from its latest entry back.
+    // The place of the entry that has these bytes: the chain of their bucket is walked from its latest entry back. No map of
+    // the library, since the memory for the chains is taken at the making.
     fn place(&self, bytes: &[u8]) -> Option<u32>
         ensures { result ≡ place_of (texts_in self.now) bytes.now }
     {
         let mut at = self.heads[bucket(bytes, self.heads.len())];
         while let Some(i) = at {
-            if self.entry_bytes(i as usize) == bytes {
+            if self.text_at(i as usize) == bytes {
                 return Some(i);
             }
             at = self.slots[i as usize].next;
         }
         None
     }
-}
 
-impl Dictionary {
-    // Whether so many new bytes fit: not too long, an entry free, and as many bytes free as they are.
-    fn has_room(&self, len: usize) -> bool
-        ensures { result ≡ fits_beside self.now.limit (vec_len self.now.heads) (vec_len self.now.area) (vec_len self.now.slots) len }
-    {
-        len <= LONGEST && self.slots.len() < self.heads.len() && len <= self.limit - self.area.len()
-    }
-
+    // Whether new bytes fit: not too long, an entry free, and as many bytes free as they are.
+    #[tactic(auto, using(crate::proofs::Held::fits_counted))]
     fn fits(&self, bytes: &[u8]) -> bool
         ensures { result ≡ fits_in self.now.limit (vec_len self.now.heads) (texts_in self.now) bytes.now }
     {
-        self.has_room(bytes.len())
+        bytes.len() <= LONGEST
+            && self.slots.len() < self.heads.len()
+            && bytes.len() <= self.limit - self.area.len()
     }
 
-    // Adds an entry for new bytes that fit, and answers its number.
+    // Adds an entry for new bytes that fit, and answers its number. That limit and buckets stay is said by each step, since a
+    // dictionary has no model.
     fn append(&mut self, bytes: &[u8]) -> Text
         requires new { place_of (texts_in self.old) bytes.now ≡ None }
         requires fits { fits_in self.old.limit (vec_len self.old.heads) (texts_in self.old) bytes.now ≡ true }

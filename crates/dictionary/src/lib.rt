@@ -13,7 +13,8 @@ pub mod calls;
 mod slot;
 
 // The bytes of all texts, at most `limit` of them; an entry for each text, at most as many as there are buckets; and the
-// latest entry of each bucket. The memory for them is taken at the making.
+// latest entry of each bucket. The memory for them is taken at the making. It has no model: the law of a stock is of each
+// value, and a model's value would not carry that the well-known texts are held.
 #[derive(Drop)]
 pub struct Dictionary {
     area: Vec<u8>,

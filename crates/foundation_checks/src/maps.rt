@@ -1,8 +1,11 @@
 // Maps, alone and in rows of a table.
 ghost use Rattle.std.specs.Prelude.{◌%◌, ◌==◌};
-ghost use Rattle.std.proofs.Common.{rules};
+ghost use Rattle.std.proofs.lemmas.Bool.Decides.{Decides-eqb};
+ghost use Rattle.texts.specs.declared.stock.Text.{Text};
+ghost use Rattle.vec_map.specs.KeysLemmas.{image_equivalence};
 
-use map_table::table::MapTable;
+use map_table::rows::Row;
+use map_table::table::{MapTable, stride_fits};
 use std::test::Fail;
 use texts::stock::Text;
 use vec_map::entry::{Entry, Sameness};
@@ -15,7 +18,7 @@ struct ByDigit;
 impl Sameness<Text> for ByDigit {
     ghost alike = { λ _ a b. (a.number % 10 == b.number % 10) };
 
-    ghost equivalence = { Prim.search rules };
+    ghost equivalence = { λ _. image_equivalence (λ (t : Text). t.number % 10) (λ x y. (x == y)) Decides-eqb };
 
     fn same_key(&self, a: &Text, b: &Text) -> bool {
         a.number % 10 == b.number % 10
@@ -28,6 +31,7 @@ const A_AGAIN: Text = Text { number: 11 };
 
 const B: Text = Text { number: 2 };
 
+// A call as a value, so that a test lists its calls beside what each comes to.
 #[derive(Clone, Copy)]
 enum Step {
     Add,
@@ -96,9 +100,11 @@ fn rows(rt: HostRuntime) -> Result<(), Fail> {
 #[test]
 fn strides(rt: HostRuntime) -> Result<(), Fail> {
     for stride in [0, 65] {
+        assert!(rt; !stride_fits(stride));
         assert!(rt; MapTable::new(rt.alloc(), stride, 1, 0u8).is_err());
     }
     for stride in [1, 64] {
+        assert!(rt; stride_fits(stride));
         let mut table = MapTable::new(rt.alloc(), stride, 1, 0u8)?;
         let _ = play(&mut table, Step::Add);
         for _ in 0..stride {
@@ -122,11 +128,10 @@ fn last_wins(rt: HostRuntime) {
         assert_eq!(rt; value_at(&map, i), value);
     }
     assert!(rt; map.is_deduped());
+    let row = Row::from(map.view());
+    assert_eq!(rt; (row.len, row.deduped), (2, true));
 }
 
 fn value_at(map: &VecMap<'_, Text, u8>, i: usize) -> Option<u8> {
-    match map.entry(i) {
-        Some(entry) => Some(entry.value),
-        None => None,
-    }
+    map.entry(i).map(|entry| entry.value)
 }

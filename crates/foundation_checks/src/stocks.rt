@@ -7,17 +7,17 @@ use texts::stock::{Stock, StockFault, Text, WellKnown};
 
 // What a put came to: the text's number, or the refusal's.
 fn put<S: Stock>(stock: &mut S, bytes: &[u8]) -> Result<u64, u8> {
-    match stock.put(bytes) {
-        Ok(text) => Ok(text.number),
-        Err(fault) => Err(fault.number()),
-    }
+    stock
+        .put(bytes)
+        .map(|text| text.number)
+        .map_err(|fault| fault.number())
 }
 
+// The number of a refused making.
 fn refused<T: Drop>(made: Result<T, Unmade<StockFault>>) -> Option<u8> {
     match made {
-        Ok(_) => None,
         Err(Unmade::Refused(fault)) => Some(fault.number()),
-        Err(Unmade::Memory) => None,
+        Ok(_) | Err(Unmade::Memory) => None,
     }
 }
 

@@ -1,7 +1,9 @@
 -- The maps of the rows, where a row is read, edited, added or taken away.
-use Rattle.std.proofs.Common.{◌≡◌, ℕ, zero, suc, ◌+◌, ◌*◌, ◌<◌, ◌≤◌, true, false, ◌&&◌, leb, List, [], ◌∷◌, ◌++◌, length, get_or, take, drop, set, sym, refl, ap, ◌∙◌, subst, suc-mul, zero-mul, arith}
-use Rattle.std.proofs.lemmas.List.{length-drop, drop_more, drop_all, take-append-le, drop-append-le, drop_at, drop-drop, drop-take, take-take, nil_from_length}
-use Rattle.std.proofs.lemmas.Bool.{and_parts, and_from, leb-true, le-leb, lt-leb}
+use Rattle.std.proofs.Common.{All, ◌≡◌, ℕ, zero, suc, ◌+◌, ◌*◌, ◌<◌, ◌≤◌, true, leb, List, [], ◌∷◌, ◌++◌, length, get_or, take, drop, set, sym, refl, ap, ◌∙◌, subst, suc-mul, zero-mul, arith}
+use Rattle.std.proofs.lemmas.List.{length-drop, take-append-le, drop-append-le, drop_at, drop-drop, drop-take, take-take, nil_from_length}
+use Rattle.std.proofs.lemmas.List.Elements.{All-set, All-push, All-take}
+use Rattle.std.proofs.lemmas.List.Sums.{AllPass-from_list_all, list_all-from_AllPass}
+use Rattle.std.proofs.lemmas.Bool.{and_parts, leb-true, le-leb}
 use Rattle.texts.specs.declared.stock.Text.{Text}
 use Rattle.vec_map.specs.declared.entry.Entry.{Entry}
 use Rattle.map_table.specs.declared.rows.Row.{Row}
@@ -12,50 +14,33 @@ use Rattle.map_table.proofs.Stretches.{with_stretch, stretch_front, stretch_cut}
 
 -- rows that fit
 module _ (st : ℕ) where
+  abbrev Fits : Row → Type 0
+  Fits r = leb r.len st ≡ true
+
+  fits_each : (rs : List Row) → rows_fit st rs ≡ true → All Fits rs
+  fits_each rs = AllPass-from_list_all (λ r. leb r.len st) rs
+
+  fits_from : (rs : List Row) → All Fits rs → rows_fit st rs ≡ true
+  fits_from rs = list_all-from_AllPass (λ r. leb r.len st) rs
+
   fits_first : (r : Row) (rs : List Row) → rows_fit st (r ∷ rs) ≡ true → r.len ≤ st
   fits_first r rs h = leb-true r.len st (and_parts (leb r.len st) (rows_fit st rs) h).0
 
   fits_rest : (r : Row) (rs : List Row) → rows_fit st (r ∷ rs) ≡ true → rows_fit st rs ≡ true
   fits_rest r rs h = (and_parts (leb r.len st) (rows_fit st rs) h).1
 
-  fits_more : (r : Row) (rs : List Row) → r.len ≤ st → rows_fit st rs ≡ true → rows_fit st (r ∷ rs) ≡ true
-  fits_more r rs le h = and_from (leb r.len st) (rows_fit st rs) (le-leb r.len st le) h
-
-  pub fits_at : (rs : List Row) (i : ℕ) (d : Row) → i < length rs → rows_fit st rs ≡ true → (get_or rs i d).len ≤ st
-  fits_at [] i d lt h = absurd (omega arith)
-  fits_at (r ∷ rs) zero d lt h = fits_first r rs h
-  fits_at (r ∷ rs) (suc i) d lt h = fits_at rs i d (omega arith) (fits_rest r rs h)
-
   -- a row that was read
   pub fits_read : (rs : List Row) (i : ℕ) (r : Row) → r ≡ get_or rs i r → i < length rs → rows_fit st rs ≡ true → r.len ≤ st
-  fits_read rs i r read lt h = subst (λ x. x.len ≤ st) (sym read) (fits_at rs i r lt h)
+  fits_read rs i r read lt h = subst (λ x. x.len ≤ st) (sym read) (leb-true _ _ (fits_each rs h i r lt))
 
   pub fits_set : (rs : List Row) (i : ℕ) (n : Row) → n.len ≤ st → rows_fit st rs ≡ true → rows_fit st (set rs i n) ≡ true
-  fits_set [] i n le h = refl
-  fits_set (r ∷ rs) zero n le h = fits_more n rs le (fits_rest r rs h)
-  fits_set (r ∷ rs) (suc i) n le h = fits_more r (set rs i n) (fits_first r rs h) (fits_set rs i n le (fits_rest r rs h))
+  fits_set rs i n le h = fits_from (set rs i n) (All-set Fits rs i n (le-leb n.len st le) (fits_each rs h))
 
   pub fits_push : (rs : List Row) (n : Row) → n.len ≤ st → rows_fit st rs ≡ true → rows_fit st (rs ++ (n ∷ [])) ≡ true
-  fits_push [] n le h = fits_more n [] le refl
-  fits_push (r ∷ rs) n le h = fits_more r (rs ++ (n ∷ [])) (fits_first r rs h) (fits_push rs n le (fits_rest r rs h))
+  fits_push rs n le h = fits_from (rs ++ (n ∷ [])) (All-push Fits rs n (fits_each rs h) (le-leb n.len st le))
 
   pub fits_take : (k : ℕ) (rs : List Row) → rows_fit st rs ≡ true → rows_fit st (take k rs) ≡ true
-  fits_take zero rs h = refl
-  fits_take (suc k) [] h = refl
-  fits_take (suc k) (r ∷ rs) h = fits_more r (take k rs) (fits_first r rs h) (fits_take k rs (fits_rest r rs h))
-
-  -- a walk over the rows: what is left decides
-  fits_here : (rs : List Row) (i : ℕ) (d : Row) → i < length rs → rows_fit st (drop i rs) ≡ (leb (get_or rs i d).len st && rows_fit st (drop (i + 1) rs))
-  fits_here rs i d lt = ap (rows_fit st) (drop_more rs i d lt)
-
-  pub fits_found : (rs : List Row) (i : ℕ) (d : Row) → rows_fit st (drop i rs) ≡ rows_fit st rs → i < length rs → st < (get_or rs i d).len → false ≡ rows_fit st rs
-  fits_found rs i d inv lt high = ap (λ b. b && rows_fit st (drop (i + 1) rs)) (sym (lt-leb (get_or rs i d).len st high)) ∙ sym (fits_here rs i d lt) ∙ inv
-
-  pub fits_on : (rs : List Row) (i : ℕ) (d : Row) → rows_fit st (drop i rs) ≡ rows_fit st rs → i < length rs → (get_or rs i d).len ≤ st → rows_fit st (drop (i + 1) rs) ≡ rows_fit st rs
-  fits_on rs i d inv lt low = ap (λ b. b && rows_fit st (drop (i + 1) rs)) (sym (le-leb (get_or rs i d).len st low)) ∙ sym (fits_here rs i d lt) ∙ inv
-
-  pub fits_end : (rs : List Row) (i : ℕ) → length rs ≤ i → rows_fit st (drop i rs) ≡ true
-  fits_end rs i le = ap (rows_fit st) (drop_all i rs le)
+  fits_take k rs h = fits_from (take k rs) (All-take Fits k rs (fits_each rs h))
 
 module _ {V : Type 0} (st : ℕ) where
   pub length-maps : (es : List (Entry Text V)) (rs : List Row) → length (maps_in st es rs) ≡ length rs

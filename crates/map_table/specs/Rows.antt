@@ -2,7 +2,7 @@
 use Rattle.std.specs.Prelude.{◌≡◌, ℕ, Bool, true, false, cond, ◌&&◌, List, [], ◌∷◌, ◌++◌, length, Ok, Err, vec_items, Option, Result, nat_le, nat_lt, slice_index_or, slice_set}
 use Rattle.std.specs.Option.{option_map, option_flatten}
 use Rattle.texts.specs.declared.stock.Text.{Text}
-use Rattle.texts.specs.Outcomes.{Outcome}
+use Rattle.texts.specs.Outcomes.{Outcome, Came, at_place}
 use Rattle.texts.specs.Outcomes.Outcome.{taken, refused}
 use Rattle.vec_map.specs.declared.entry.Entry.{Entry}
 use Rattle.vec_map.specs.declared.fault.MapFault.{MapFault}
@@ -15,7 +15,7 @@ use Rattle.map_table.specs.declared.table.PartsFault.{PartsFault}
 use Rattle.map_table.specs.declared.table.PartsFault.TheVariants as parts
 use Rattle.vec_map.specs.Entries.{entry_at}
 use Rattle.vec_map.specs.Maps.{Map, blank}
-use Rattle.map_table.specs.Tables.{most_places, parts_fit, maps_in}
+use Rattle.map_table.specs.Tables.{most_places, parts_fit, maps_in, OutsideStays}
 
 -- the maps of a table
 abbrev pub maps_of : {V : Type 0} → MapTable V → List (Map Text V)
@@ -41,6 +41,16 @@ TableJoined stride es rs (Err parts.Broken) = parts_fit stride es rs ≡ false
 pub record ShapeStays {V : Type 0} (t t' : MapTable V) : Type 0 where
   pub stride : t'.stride ≡ t.stride
   pub room : t'.room ≡ t.room
+
+-- a call with this outcome turned t into t' and answered r: no entry outside the places of the row changed, and the shape stays
+pub record RowWorked {V : Type 0} (o : Outcome (List (Map Text V)) (Unit {0}) MapFault) (row : ℕ) (t t' : MapTable V) (r : Result (Unit {0}) MapFault) : Type 0 where
+  pub came : Came o (maps_of t) (maps_of t') r
+  pub outside : OutsideStays t.stride row (vec_items t.entries) (vec_items t'.entries)
+  pub shape : ShapeStays t t'
+
+-- the call was one on the map of the row; where there is no such row, it is refused for that
+abbrev pub RowEdited : {V : Type 0} → (Map Text V → Outcome (Map Text V) (Unit {0}) MapFault) → ℕ → MapTable V → MapTable V → Result (Unit {0}) MapFault → Type 0
+RowEdited call row t t' r = RowWorked (at_place NoPlace call (maps_of t) row) row t t' r
 
 -- one row more, with no entries, wants room for it
 abbrev pub row_added : {V : Type 0} → ℕ → List (Map Text V) → Outcome (List (Map Text V)) (Unit {0}) MapFault

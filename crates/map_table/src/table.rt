@@ -13,6 +13,7 @@ mod parts;
 mod reads;
 mod writes;
 
+pub use bounds::stride_fits;
 pub use edits::Edit;
 
 // The most entries that a row has places for.
@@ -36,7 +37,7 @@ pub struct MapTable<V: Copy> {
     ghost places: { room * stride ≤ vec_capacity entries },
 }
 
-// Why a table cannot be made.
+// Why a table cannot be made. An enum of its own, since the one ground has no number here: the layers above tell it as theirs.
 #[derive(Clone, Copy, Debug)]
 pub enum TableFault {
     // A row has at least one place and at most `MOST_PLACES`.
@@ -45,7 +46,7 @@ pub enum TableFault {
     Memory,
 }
 
-// Why parts are not those of a table.
+// Why parts are not those of a table. An enum of its own, since parts bring their memory with them.
 #[derive(Clone, Copy, Debug)]
 pub enum PartsFault {
     // The entries are not just the places of the rows, or a row has more of them than it has places.

@@ -1,5 +1,5 @@
 -- What the contracts cite.
 pub mod Known
-pub mod Halves
 pub mod Near
+pub mod Halves
 pub mod Example

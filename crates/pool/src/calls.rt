@@ -43,7 +43,7 @@ impl Pool {
         Ok(Pool { area, limit })
     }
 
-    // Appends a text, and answers its number.
+    // Appends a text, and answers its number. The memory was taken at the making, so the growth cannot fail.
     fn append(&mut self, bytes: &[u8]) -> Result<Text, StockFault>
         ensures exactly { Came (pool_put self.old.limit self.old.area.items bytes.now) self.old.area.items self.new.area.items result }
         ensures limit { self.new.limit ≡ self.old.limit }
@@ -69,11 +69,8 @@ impl Stock for Pool {
     }
 
     fn bytes(&self, text: Text) -> &[u8] {
-        if !self.knows(text) {
-            return &[];
-        }
         let start = start_of(text);
-        &self.area[start..start + length_of(text)]
+        self.area.get(start..start + length_of(text)).unwrap_or(&[])
     }
 
     fn held(&self, which: WellKnown) -> Text {

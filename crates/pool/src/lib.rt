@@ -7,7 +7,8 @@ ghost use Rattle.texts.specs.Stocks.{most_bytes};
 
 pub mod calls;
 
-// The bytes put so far, of which there are at most `limit`, with the memory for them taken at the making.
+// The bytes put so far, of which there are at most `limit`, with the memory for them taken at the making. It has no model:
+// the law of a stock is of each value, and a model's value would not carry that the well-known texts are held.
 #[derive(Drop)]
 pub struct Pool {
     area: Vec<u8>,

@@ -3,6 +3,7 @@ use Rattle.std.proofs.Common.{◌≡◌, ℕ, ◌+◌, ◌*◌, ◌<◌, ◌≤�
 use Rattle.std.proofs.lemmas.Nat.{mul-le}
 use Rattle.std.proofs.lemmas.List.{at_drop_more, at_drop_all}
 use Rattle.std.proofs.lemmas.Bool.{lt-leb, le-leb}
+use Rattle.std.proofs.lemmas.Bool.Decides.{nat_tests}
 use Rattle.session.specs.Numerals.{at_most, digit_of, numeral}
 
 -- more digits make no smaller number, so past the limit there is none
@@ -34,3 +35,5 @@ module _ (base most n : ℕ) (cs : List ℕ) (i : ℕ) (lt : i < length cs) wher
 -- no byte is left
 pub numeral-all : (base most n : ℕ) (cs : List ℕ) (i : ℕ) → length cs ≤ i → n ≤ most → at_most most (numeral base n (drop i cs)) ≡ Some n
 numeral-all base most n cs i past le = at_drop_all (λ xs. at_most most (numeral base n xs)) cs i past ∙ ap (λ b. cond b (Some n) None) (le-leb n most le)
+
+pub ruleset digits_read = (numeral-more, numeral-over, numeral-stops, numeral-all, nat_tests)

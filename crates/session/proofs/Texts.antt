@@ -1,9 +1,7 @@
 -- A text byte by byte: how a spelling begins, and that what is written reads back.
-use Rattle.std.proofs.Common.{◌≡◌, ℕ, suc, ◌+◌, ◌-◌, ◌^◌, ◌<◌, true, false, cond, not, eqb, ltb, leb, List, [], ◌∷◌, ◌++◌, length, get_or, take, drop, Some, None, Option, sym, refl, ap, ◌∙◌, ⊎_elim, append_assoc, arith, w8, Fits}
-use Rattle.std.proofs.lemmas.List.{take_rest}
+use Rattle.std.proofs.Common.{◌≡◌, ℕ, suc, ◌^◌, ◌<◌, true, false, cond, not, eqb, ltb, leb, List, [], ◌∷◌, ◌++◌, get_or, Some, None, Option, sym, refl, ap, ◌∙◌, ⊎_elim, append_assoc, arith, w8, Fits}
 use Rattle.std.proofs.lemmas.Bool.{and_parts, and_from, cases_Bool, not-true}
 use Rattle.std.specs.List.{flat_map}
-use Rattle.std.specs.Option.{option_map}
 use Rattle.std.specs.Int.{is_in_range}
 use Rattle.session.specs.Lines.{unspaced}
 use Rattle.session.specs.Numerals.{number_of, hexes}
@@ -57,22 +55,6 @@ after-onto : (cs : List ℕ) (c : ℕ) (t : Option (List ℕ)) → after_all (cs
 after-onto cs c None = refl
 after-onto cs c (Some ds) = ap Some (append_assoc cs (c ∷ []) ds)
 
-one-longer : (k c : ℕ) (t : Option (List ℕ)) → option_map (λ ds. k + 1 + length ds) t ≡ option_map (λ ds. k + length ds) (onto (Some c) t)
-one-longer k c None = refl
-one-longer k c (Some ds) = let e : k + 1 + length ds ≡ k + suc (length ds) = omega arith in ap Some e
-
--- a byte is read, and the rest is left
-module _ (rest : List ℕ) (c n : ℕ) (first : SpellsFirst rest c n) where
-  left_over : onto (Some c) (unspelt (take (length rest - n) (drop n rest))) ≡ unspelt rest
-  left_over = ap (λ xs. onto (Some c) (unspelt xs)) (take_rest rest n) ∙ sym first.rest
-
-  -- it goes to the end of the text
-  pub text_more : (cs more : List ℕ) → more ≡ cs ++ c ∷ [] → after_all more (unspelt (take (length rest - n) (drop n rest))) ≡ after_all cs (unspelt rest)
-  text_more cs more pushed =
-      ap (λ xs. after_all xs (unspelt (take (length rest - n) (drop n rest)))) pushed
-      ∙ after-onto cs c (unspelt (take (length rest - n) (drop n rest)))
-      ∙ ap (after_all cs) left_over
-
-  -- it counts
-  pub length_more : (k : ℕ) → option_map (λ ds. k + 1 + length ds) (unspelt (take (length rest - n) (drop n rest))) ≡ option_map (λ ds. k + length ds) (unspelt rest)
-  length_more k = one-longer k c (unspelt (take (length rest - n) (drop n rest))) ∙ ap (option_map (λ ds. k + length ds)) left_over
+-- a byte is read, and goes to the end of the text
+pub text_more : (cs rest : List ℕ) (c : ℕ) (text : List ℕ) → SpellsFirst cs c rest → after_all (text ++ c ∷ []) (unspelt rest) ≡ after_all text (unspelt cs)
+text_more cs rest c text first = after-onto text c (unspelt rest) ∙ ap (after_all text) (sym first.spelt)

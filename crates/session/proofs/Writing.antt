@@ -51,15 +51,6 @@ decimal_counts = decimal_by_steps (Counts 10)
     (λ n lt. counts_push 10 0 [] n (48 + n) n (counts_none 10) (digit_ten n lt) (omega arith) (omega arith))
     (λ n ds big front. counts_push 10 (n / 10) ds n (48 + n % 10) (n % 10) front (digit_ten (n % 10) (mod_below n 10 (omega arith))) (omega arith) (div-add-mod' n 10))
 
-pub hexes-none : (places n : ℕ) → places ≡ 0 → hexes places n ≡ []
-unfolding hexes
-hexes-none places n none = ap (λ k. hexes k n) none
-
-pub hexes-more : (places n : ℕ) → (places ≡ 0 → ⊥) → hexes places n ≡ hexes (places - 1) (n / 16) ++ digit_char (n % 16) ∷ []
-unfolding hexes
-hexes-more zero n some = absurd (some refl)
-hexes-more (suc places) n some = let e : places ≡ suc places - 1 = omega arith in ap (λ k. hexes k (n / 16) ++ digit_char (n % 16) ∷ []) e
-
 pub hexes-count : (places n : ℕ) → n < 16 ^ places → Counts 16 n (hexes places n)
 unfolding hexes
 hexes-count zero n lt = let e : 0 ≡ n = omega arith in subst (λ m. Counts 16 m []) e (counts_none 16)
@@ -100,9 +91,9 @@ signed_reads (pos n) fits =
     rw (plain, signed_of) (ap (option_map pos) (decimal_reads (2 ^ 63 - 1) n (omega arith) (omega arith)))
 signed_reads (negsuc n) fits = ap (option_map (λ m. neg_ℤ (pos m))) (decimal_reads (2 ^ 63) (suc n) (omega arith) (omega arith))
 
-pub signed-visible : (z : ℤ) → mag z < 2 ^ 63 → unspaced (signed_decimal z) ≡ true
-signed-visible (pos n) fits = (decimal_counts n (omega arith)).visible
-signed-visible (negsuc n) fits = (decimal_counts (suc n) (omega arith)).visible
+pub signed_visible : (z : ℤ) → mag z < 2 ^ 63 → unspaced (signed_decimal z) ≡ true
+signed_visible (pos n) fits = (decimal_counts n (omega arith)).visible
+signed_visible (negsuc n) fits = (decimal_counts (suc n) (omega arith)).visible
 
 pub float_reads : (n : ℕ) → n < 2 ^ 64 → float_of (float_word n) ≡ Some n
 float_reads n fits =
@@ -111,3 +102,8 @@ float_reads n fits =
 
 pub float_visible : (n : ℕ) → n < 2 ^ 64 → unspaced (float_word n) ≡ true
 float_visible n fits = (hexes-count 16 n fits).visible
+
+pub decimal_visible : (n : ℕ) → n < 2 ^ 64 → unspaced (decimal n) ≡ true
+decimal_visible n fits = (decimal_counts n fits).visible
+
+pub ruleset written = (decimal_reads, decimal_visible, signed_reads, signed_visible, float_reads, float_visible)

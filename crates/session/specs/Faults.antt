@@ -3,7 +3,7 @@ use Rattle.std.specs.Prelude.{◌≡◌, Bool, true, false, Some, None, Ok, Err,
 use Rattle.session.specs.declared.fault.WordFault.{WordFault}
 use Rattle.session.specs.declared.fault.WordFault.TheVariants.{Malformed, Memory}
 
--- there is a value, and the test holds of it
+-- there is a value, and the test holds of it; over the library's option_map_or a reader's proof stays open
 abbrev pub holds_of : {X : Type 0} → (X → Bool) → Option X → Bool
 holds_of test None = false
 holds_of test (Some x) = test x

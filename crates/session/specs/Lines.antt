@@ -1,10 +1,10 @@
 -- Lines of a text, and words of a line: what stands before the byte that ends one, and what stands behind it.
-use Rattle.std.specs.Prelude.{◌≡◌, ℕ, ◌+◌, ◌<◌, Bool, true, cond, not, ◌&&◌, List, [], ◌∷◌, ◌++◌, length, take, drop, Some, None, Option, ◌==◌, nat_lt}
+use Rattle.std.specs.Prelude.{◌≡◌, ℕ, Bool, true, cond, not, List, [], ◌∷◌, ◌++◌, Some, None, Option, ◌==◌, nat_lt}
+use Rattle.std.specs.List.{list_all}
 
 -- no byte up to the space
 abbrev pub unspaced : List ℕ → Bool
-unspaced [] = true
-unspaced (c ∷ cs) = nat_lt 32 c && unspaced cs
+unspaced cs = list_all (λ c. nat_lt 32 c) cs
 
 -- what stands before the first byte `end`
 abbrev pub front : ℕ → List ℕ → List ℕ
@@ -37,31 +37,14 @@ tail end (Some cs) = end ∷ cs
 
 -- the byte `end` is not among the bytes
 abbrev pub lacks : ℕ → List ℕ → Bool
-lacks end [] = true
-lacks end (c ∷ cs) = not (c == end) && lacks end cs
+lacks end cs = list_all (λ c. not (c == end)) cs
 
 -- a line that was put together of words is cut into the same words
 pub record CutsWords : Type 0 where
   pub last : (word : List ℕ) → unspaced word ≡ true → (first_word word ≡ word) × (more_words word ≡ None)
   pub first : (word more : List ℕ) → unspaced word ≡ true → (first_word (word ++ 32 ∷ more) ≡ word) × (more_words (word ++ 32 ∷ more) ≡ Some more)
 
--- the first byte `end` stands at a place
-pub record EndAt (end : ℕ) (bytes : List ℕ) (at : ℕ) : Type 0 where
-  pub within : at < length bytes
-  pub before : front end bytes ≡ take at bytes
-  pub after : behind end bytes ≡ Some (drop (at + 1) bytes)
-
--- there is no byte `end`
-pub record Endless (end : ℕ) (bytes : List ℕ) : Type 0 where
-  pub before : front end bytes ≡ bytes
-  pub after : behind end bytes ≡ None
-
 -- what follows the mark that a word begins with
 abbrev pub past_mark : ℕ → List ℕ → Option (List ℕ)
 past_mark mark [] = None
 past_mark mark (c ∷ cs) = cond (c == mark) (Some cs) None
-
--- what a function makes of a value, where there is one
-abbrev pub bound : {X Y : Type 0} → Option X → (X → Option Y) → Option Y
-bound None f = None
-bound (Some x) f = f x

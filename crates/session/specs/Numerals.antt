@@ -1,9 +1,9 @@
 -- Numbers as digits, in a base up to sixteen: what digits mean, and how a number is written.
 use Rattle.std.specs.Prelude.{ℕ, zero, suc, ◌+◌, ◌-◌, ◌*◌, ◌/◌, ◌%◌, ◌^◌, Bool, true, false, cond, List, [], ◌∷◌, ◌++◌, length, ℤ, pos, neg_ℤ, is_some, Some, None, Option, ◌==◌, nat_le}
-use Rattle.std.specs.Option.{unwrap_or, option_map}
+use Rattle.std.specs.Option.{unwrap_or, option_map, option_and_then}
 use Rattle.std.specs.Int.{is_in_range}
 use Rattle.std.specs.Char.{digit_char}
-use Rattle.session.specs.Lines.{past_mark, bound}
+use Rattle.session.specs.Lines.{past_mark}
 
 -- the number, unless it is above the most that is allowed
 abbrev pub at_most : ℕ → Option ℕ → Option ℕ
@@ -49,7 +49,7 @@ abbrev pub float_word : ℕ → List ℕ
 float_word n = 120 ∷ hexes 16 n
 
 abbrev pub float_of : List ℕ → Option ℕ
-float_of cs = bound (past_mark 120 cs) (λ ds. cond (length ds == 16) (number_of 16 (2 ^ 64 - 1) ds) None)
+float_of cs = option_and_then (λ ds. cond (length ds == 16) (number_of 16 (2 ^ 64 - 1) ds) None) (past_mark 120 cs)
 
 -- a flag: a one or a zero
 abbrev pub flag_word : Bool → List ℕ

@@ -1,9 +1,9 @@
 -- Texts as words: a quote, and then each byte as itself or as a percent sign and two places in base sixteen.
-use Rattle.std.specs.Prelude.{◌≡◌, ℕ, ◌<◌, ◌≤◌, Bool, cond, not, ◌&&◌, List, [], ◌∷◌, ◌++◌, length, drop, Some, None, Option, ◌==◌}
+use Rattle.std.specs.Prelude.{◌≡◌, ℕ, ◌<◌, Bool, cond, not, ◌&&◌, List, [], ◌∷◌, ◌++◌, length, Some, None, Option, ◌==◌}
 use Rattle.std.specs.List.{flat_map}
-use Rattle.std.specs.Option.{option_map}
+use Rattle.std.specs.Option.{option_map, option_and_then}
 use Rattle.std.specs.Int.{is_in_range as within}
-use Rattle.session.specs.Lines.{past_mark, bound}
+use Rattle.session.specs.Lines.{past_mark}
 use Rattle.session.specs.Numerals.{number_of, hexes}
 
 -- a byte that is written as itself
@@ -35,13 +35,12 @@ unspelt (c ∷ (d ∷ (e ∷ cs))) = cond (c == 37) (onto (number_of 16 255 (d �
 
 -- the text that a word means
 abbrev pub text_of : List ℕ → Option (List ℕ)
-text_of cs = bound (past_mark 39 cs) unspelt
+text_of cs = option_and_then unspelt (past_mark 39 cs)
 
--- the first n bytes spell c
-pub record SpellsFirst (cs : List ℕ) (c n : ℕ) : Type 0 where
-  pub some : 0 < n
-  pub within : n ≤ length cs
-  pub rest : unspelt cs ≡ onto (Some c) (unspelt (drop n cs))
+-- the bytes spell c, and then what the rest spells
+pub record SpellsFirst (cs : List ℕ) (c : ℕ) (rest : List ℕ) : Type 0 where
+  pub shorter : length rest < length cs
+  pub spelt : unspelt cs ≡ onto (Some c) (unspelt rest)
 
 -- a text after bytes that were read
 abbrev pub after_all : List ℕ → Option (List ℕ) → Option (List ℕ)

@@ -1,8 +1,11 @@
 -- Values as two words: a letter for the kind, and the value.
-use Rattle.std.specs.Prelude.{ℕ, ◌-◌, ◌^◌, Bool, true, false, cond, List, [], ◌∷◌, ℤ, None, vec_items, Option, ◌==◌}
-use Rattle.std.specs.Option.{option_map}
+use Rattle.std.specs.Prelude.{ℕ, ◌-◌, ◌^◌, Bool, true, false, List, ℤ, vec_items, Option}
+use Rattle.std.specs.Option.{option_map, option_and_then}
+use Rattle.session.specs.declared.kind_word.ValueKind.{ValueKind}
+use Rattle.session.specs.declared.kind_word.ValueKind.TheVariants as Kind
 use Rattle.session.specs.declared.value_word.ValueWord.{ValueWord}
 use Rattle.session.specs.declared.value_word.ValueWord.TheVariants.{Text, Float, Int, Bool as Flag, Bytes, KeyValue, List as Listing}
+use Rattle.session.specs.Kinds.{kind_of}
 use Rattle.session.specs.Numerals.{float_of, flag_of, signed_of, unsigned_of}
 use Rattle.session.specs.Texts.{text_of}
 
@@ -40,19 +43,16 @@ is_text (a_list n) = false
 abbrev pub host_number : List ℕ → Option ℕ
 host_number word = unsigned_of (2 ^ 64 - 1) word
 
--- the value of the kind that a letter stands for
-abbrev pub value_by : ℕ → List ℕ → Option Meaning
-value_by letter word =
-    cond (letter == 116) (option_map a_text (text_of word))
-    (cond (letter == 102) (option_map a_float (float_of word))
-    (cond (letter == 105) (option_map an_int (signed_of word))
-    (cond (letter == 98) (option_map a_bool (flag_of word))
-    (cond (letter == 121) (option_map some_bytes (host_number word))
-    (cond (letter == 107) (option_map a_key_value (host_number word))
-    (cond (letter == 108) (option_map a_list (host_number word))
-    None))))))
+-- the value of a kind that a word means
+abbrev pub value_as : ValueKind → List ℕ → Option Meaning
+value_as Kind.Text word = option_map a_text (text_of word)
+value_as Kind.Float word = option_map a_float (float_of word)
+value_as Kind.Int word = option_map an_int (signed_of word)
+value_as Kind.Bool word = option_map a_bool (flag_of word)
+value_as Kind.Bytes word = option_map some_bytes (host_number word)
+value_as Kind.KeyValue word = option_map a_key_value (host_number word)
+value_as Kind.List word = option_map a_list (host_number word)
 
+-- the value that the word of a kind and another word mean
 abbrev pub value_of : List ℕ → List ℕ → Option Meaning
-value_of [] word = None
-value_of (letter ∷ []) word = value_by letter word
-value_of (letter ∷ (c ∷ cs)) word = None
+value_of kind word = option_and_then (λ k. value_as k word) (kind_of kind)

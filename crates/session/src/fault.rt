@@ -4,7 +4,7 @@ ghost use Rattle.session.specs.declared.fault.WordFault.TheVariants.{Memory};
 
 use std::alloc::{AllocError, AllocFailed};
 
-#[derive(Clone, Copy, Debug, PartialEq)]
+#[derive(Clone, Copy, Debug, PartialEq, Eq)]
 pub enum WordFault {
     // The word is not of the wanted kind.
     Malformed,
@@ -12,6 +12,7 @@ pub enum WordFault {
     Memory,
 }
 
+// Both conversions are written out, since a derived one does not say which fault it gives.
 impl From<AllocError> for WordFault {
     ghost from_gives = { λ _ r. r ≡ Memory };
 

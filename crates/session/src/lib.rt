@@ -12,18 +12,21 @@
 #![tactic(auto)]
 
 mod fault;
+mod kind_word;
 mod line;
 mod number_word;
 mod text_word;
 mod value_word;
+mod word;
 
 pub use fault::WordFault;
+pub use kind_word::{ValueKind, read_kind, write_kind};
 pub use line::{cut_line, cut_word};
 pub use number_word::{
     read_flag, read_float, read_signed, read_unsigned, write_flag, write_float, write_signed,
     write_unsigned,
 };
-pub use text_word::{read_text, write_text};
+pub use text_word::{TextWord, read_text, write_text};
 pub use value_word::{ValueWord, read_value};
 
 #[cfg(test)]

@@ -1,43 +1,17 @@
-// The lines of a text, the words of a line, and the mark that a word begins with.
-ghost use Rattle.std.specs.Prelude.{◌≡◌, ◌+◌, ◌<◌, true, ◌++◌, length, take, drop, MatchOption};
+// The lines of a text, and the words of a line.
+ghost use Rattle.std.specs.Prelude.{◌≡◌, true, ◌++◌, ◌==◌, position};
 ghost use Rattle.std.specs.Option.{option_map};
-ghost use Rattle.session.specs.Lines.{past_mark, front, behind, first_word, more_words, first_line, more_lines, tail, lacks, CutsWords, EndAt, Endless};
-
-// What follows the mark that the word begins with, if it does.
-pub(crate) fn past_mark(mark: u8, word: &[u8]) -> Option<&[u8]>
-    ensures { option_map (λ x. x.now) result ≡ past_mark mark word.now }
-{
-    match word {
-        [first, rest @ ..] if *first == mark => Some(rest),
-        _ => None,
-    }
-}
+ghost use Rattle.session.specs.Lines.{front, behind, first_word, more_words, first_line, more_lines, tail, lacks, CutsWords};
 
 // Where the first byte `end` stands.
 fn first_end(bytes: &[u8], end: u8) -> Option<usize>
-    ensures place { MatchOption result (Endless end bytes.now) (EndAt end bytes.now) }
-    ensures rejoined { bytes.now ≡ front end bytes.now ++ tail end (behind end bytes.now) }
-    ensures lacks { lacks end (front end bytes.now) ≡ true }
-    ensures words { CutsWords }
+    ensures { result ≡ position (λ byte. byte == end) bytes.now }
 {
-    for (i, byte) in bytes.iter().enumerate() {
-        if *byte == end {
-            return Some(i);
-        }
-    }
-    None
-}
-
-// What stands before a place, and what stands after it.
-fn around(bytes: &[u8], at: usize) -> (&[u8], &[u8])
-    requires { at < length bytes.now }
-    ensures before { result.0.now ≡ take at bytes.now }
-    ensures behind { result.1.now ≡ drop (at + 1) bytes.now }
-{
-    (&bytes[0..at], &bytes[at + 1..])
+    bytes.iter().position(|byte| *byte == end)
 }
 
 // Cuts bytes at the first byte `end`: what stands before it, and what follows it, if there is one.
+#[tactic(auto, using(crate::proofs::Lines::cuts))]
 fn cut_at(bytes: &[u8], end: u8) -> (&[u8], Option<&[u8]>)
     ensures first { result.0.now ≡ front end bytes.now }
     ensures more { option_map (λ x. x.now) result.1 ≡ behind end bytes.now }
@@ -46,10 +20,7 @@ fn cut_at(bytes: &[u8], end: u8) -> (&[u8], Option<&[u8]>)
     ensures words { CutsWords }
 {
     match first_end(bytes, end) {
-        Some(at) => {
-            let (first, more) = around(bytes, at);
-            (first, Some(more))
-        }
+        Some(at) => (&bytes[..at], Some(&bytes[at + 1..])),
         None => (bytes, None),
     }
 }

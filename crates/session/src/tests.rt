@@ -68,3 +68,30 @@ fn numbers(rt: HostRuntime) -> Result<(), Fail> {
     assert_eq!(rt; read_flag(b""), None);
     Ok(())
 }
+
+#[test]
+fn kinds(rt: HostRuntime) -> Result<(), Fail> {
+    let table: [(ValueKind, &[u8]); 7] = [
+        (ValueKind::Text, b"t"),
+        (ValueKind::Float, b"f"),
+        (ValueKind::Int, b"i"),
+        (ValueKind::Bool, b"b"),
+        (ValueKind::Bytes, b"y"),
+        (ValueKind::KeyValue, b"k"),
+        (ValueKind::List, b"l"),
+    ];
+    for (kind, word) in table {
+        let mut out = Vec::new(rt.alloc());
+        write_kind(&mut out, kind)?;
+        assert_eq!(rt; out.as_slice(), word);
+        assert_eq!(rt; read_kind(word), Some(kind));
+    }
+    assert_eq!(rt; read_kind(b"T"), None);
+    assert_eq!(rt; read_kind(b"tt"), None);
+    assert_eq!(rt; read_kind(b""), None);
+    assert_eq!(rt;
+        format!(in rt.alloc(); "{}", TextWord(b"a b"))?.as_str(),
+        "'a%20b"
+    );
+    Ok(())
+}

@@ -1,6 +1,7 @@
 -- What readings come to: a tag, a number, a priority, and whether a span is sampled by itself. Each edition says at which map it reads.
 use Rattle.std.specs.Prelude.{Bool, cond, ◌||◌, is_some, Some, None, Option, Float}
 use Rattle.std.specs.Float.Ieee.{eq, lt}
+use Rattle.std.specs.Option.{option_and_then, option_map}
 use Rattle.numbers.specs.Known.{zero, eight}
 use Rattle.span.specs.declared.key.Key.TheVariants.{SpanSamplingMechanism, AnalyticsRate, SamplingPriority}
 use Rattle.span.specs.declared.tag.Priority.{Priority}
@@ -26,13 +27,11 @@ tag_read (Some (of.KeyValue n)) = None
 tag_read (Some (of.List n)) = None
 
 abbrev pub number_read : Option Value → Option Float
-number_read None = None
-number_read (Some v) = number_of v
+number_read reading = option_and_then number_of reading
 
 -- a priority is positive above 0, and a NaN is not
 abbrev pub weighed : Option Float → Option Priority
-weighed None = None
-weighed (Some x) = Some (cond (lt zero x) Positive NotPositive)
+weighed number = option_map (λ x. cond (lt zero x) Positive NotPositive) number
 
 -- 8.0 among the numbers, or a rate with any value
 abbrev pub sampled_by : Option Float → Bool → Bool

@@ -9,11 +9,12 @@ use Rattle.vec_map.specs.declared.fault.MapFault.{MapFault}
 use Rattle.vec_map.specs.declared.fault.MapFault.TheVariants.{Full, NoPlace}
 use Rattle.vec_map.specs.Entries.{entry_at}
 use Rattle.vec_map.specs.Maps.{Map, blank}
-use Rattle.map_table.specs.declared.rows.Row.{Row}
 use Rattle.map_table.specs.declared.table.TableFault.{TableFault}
 use Rattle.map_table.specs.declared.table.TableFault.TheVariants.{Stride, Memory}
 use Rattle.map_table.specs.declared.table.edits.Edit.{Edit}
 use Rattle.map_table.specs.Rows.{stride_fits}
+use Rattle.span.specs.declared.edition.SpanAt.{SpanAt}
+use Rattle.span.specs.declared.edition.ChunkAt.{ChunkAt}
 use Rattle.span.specs.declared.owner.Owner.{Owner}
 use Rattle.span.specs.declared.owner.Owner.TheVariants as at
 use Rattle.span.specs.declared.shape.Shape.{Shape}
@@ -21,7 +22,7 @@ use Rattle.span.specs.declared.value.Value.{Value}
 use Rattle.span.specs.Edits.{edit_maps}
 use Rattle.span.specs.Model.{Maps}
 use Rattle.span.specs.Readings.{maps_at}
-use Rattle.span.specs.Views.{Kind, View}
+use Rattle.span.specs.Views.{Kind, View, Sight, ChunkSight, sight, chunk_sight}
 use Rattle.span.specs.Views.Kind.{of_span, of_chunk}
 
 pub record Table : Type 0 where
@@ -81,6 +82,10 @@ owner_maps (at.Chunk p) t = maps_at t.chunks p
 abbrev pub owner_map : Owner → ℕ → Table → Option (Map Text Value)
 owner_map o which t = entry_at (owner_maps o t) which
 
--- what is kept of a map beside its entries
-abbrev pub row_of : Map Text Value → Row
-row_of m = record { len = length m.entries; deduped = m.deduped }
+-- what is seen of the span, and of the chunk, that stands at a row of an edition's tables
+module _ {H O M : Type 0} (v : View H O) (table : M → Table) where
+  abbrev pub sight_at : Texts → SpanAt O M → Sight
+  sight_at t s = sight v t s.fields.now (table s.maps.now).spans s.row
+
+  abbrev pub chunk_sight_at : Texts → ChunkAt H M → ChunkSight
+  chunk_sight_at t c = chunk_sight v t c.head.now (table c.maps.now).chunks c.row

@@ -1,6 +1,6 @@
 // The keys that have a meaning of their own, beside those that every stock holds.
 ghost use Rattle.std.specs.Prelude.{◌≡◌};
-ghost use Rattle.span.specs.Keys.{key_bytes, key_spelling};
+ghost use Rattle.span.specs.Keys.{key_bytes};
 
 #[derive(Clone, Copy, PartialEq, Eq, Debug)]
 pub enum Key {
@@ -24,14 +24,9 @@ pub enum Key {
 }
 
 impl Key {
+    #[tactic(auto, unfolding(crate::specs::Keys::key_bytes))]
     pub fn bytes(self) -> &'static [u8]
         ensures { result.now ≡ key_bytes self }
-    {
-        self.spelling()
-    }
-
-    fn spelling(self) -> &'static [u8]
-        ensures { result.now ≡ key_spelling self }
     {
         match self {
             Key::TracerTopLevel => b"_dd.top_level",

@@ -1,6 +1,7 @@
 // What spans hold and show.
 #![tactic(auto)]
 
+pub mod checks;
 pub mod edition;
 pub mod fields;
 pub mod key;

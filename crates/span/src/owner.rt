@@ -2,7 +2,7 @@
 ghost use Rattle.std.specs.Prelude.{◌≡◌};
 ghost use Rattle.span.specs.Owners.{owner_place};
 
-// A span, by its place in the whole batch, or a chunk, by its place.
+// A span, by its place in the whole batch, or a chunk, by its place. No `Result`, since neither is a failure.
 #[derive(Clone, Copy, PartialEq, Eq, Debug)]
 pub enum Owner {
     Span(usize),

@@ -20,29 +20,19 @@ pub fn tag_read(reading: Option<Value>) -> Option<Tag>
 pub fn number_read(reading: Option<Value>) -> Option<f64>
     ensures { result ≡ number_read reading }
 {
-    match reading {
-        Some(value) => value.number(),
-        None => None,
-    }
+    reading?.number()
 }
 
 // What a number says as a priority: a NaN is not positive.
 pub fn weighed(number: Option<f64>) -> Option<Priority>
     ensures { result ≡ weighed number }
 {
-    match number {
-        Some(x) if is_positive(x) => Some(Priority::Positive),
-        Some(_) => Some(Priority::NotPositive),
-        None => None,
-    }
+    number.map(|x| Priority::of(is_positive(x)))
 }
 
 // Whether a span with this sampling mechanism is sampled by itself; one that is rated for analytics always is.
 pub fn sampled_by(mechanism: Option<f64>, rated: bool) -> bool
     ensures { result ≡ sampled_by mechanism rated }
 {
-    match mechanism {
-        Some(x) => is_eight(x) || rated,
-        None => rated,
-    }
+    mechanism.is_some_and(|x| is_eight(x)) || rated
 }

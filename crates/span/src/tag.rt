@@ -1,12 +1,13 @@
 // What a tag shows, and what a chunk's priority comes to.
-ghost use Rattle.std.specs.Prelude.{◌≡◌};
+ghost use Rattle.std.specs.Prelude.{◌≡◌, cond};
+ghost use Rattle.span.specs.declared.tag.Priority.TheVariants.{Positive, NotPositive};
 ghost use Rattle.span.specs.Tags.{tag_bytes};
 
 use crate::v1::SpanKind;
 use texts::stock::{Stock, Text};
 
-// A tag's text, or the kind whose word it is.
-#[derive(Clone, Copy)]
+// A tag's text, or the kind whose word it is. No `Result`, since neither is a failure.
+#[derive(Clone, Copy, Debug)]
 pub enum Tag {
     Text(Text),
     Kind(SpanKind),
@@ -29,4 +30,17 @@ impl Tag {
 pub enum Priority {
     Positive,
     NotPositive,
+}
+
+impl Priority {
+    // That of a number which is above 0, or is not. No `From`, since a truth value alone says nothing of a priority.
+    pub fn of(positive: bool) -> Priority
+        ensures { result ≡ cond positive Positive NotPositive }
+    {
+        if positive {
+            Priority::Positive
+        } else {
+            Priority::NotPositive
+        }
+    }
 }

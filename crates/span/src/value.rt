@@ -5,7 +5,7 @@ ghost use Rattle.span.specs.Values.{number_of};
 use numbers::{float_of_bits, int_to_float};
 use texts::stock::Text;
 
-// A float is held as its 64 bits. Bytes, key-value and list hold one number of the host's, which is never opened.
+// A float is held as its 64 bits, which an `f64` does not keep of a NaN. Bytes, key-value and list hold one number of the host's, which is never opened.
 #[derive(Clone, Copy, Debug)]
 pub enum Value {
     Text(Text),

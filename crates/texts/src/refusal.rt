@@ -1,10 +1,11 @@
 // What a refusal tells: its number, the layer that refused, and the place that is at fault.
-ghost use Rattle.std.specs.Prelude.{◌≡◌};
-ghost use Rattle.texts.specs.Layers.{layer_word};
+ghost use Rattle.std.specs.Prelude.{◌≡◌, Some};
+ghost use Rattle.texts.specs.Layers.{layer_word, refusal_words};
 ghost use Rattle.texts.specs.declared.refusal.Refusal.{Refusal};
 ghost use Rattle.texts.specs.declared.refusal.Unmade.TheVariants.{Memory};
 
 use std::alloc::AllocError;
+use std::fmt;
 
 #[derive(Clone, Copy, PartialEq, Eq, Debug)]
 pub enum Layer {
@@ -28,11 +29,28 @@ impl Layer {
     }
 }
 
+impl fmt::Display for Layer {
+    ghost output = { λ layer. Some (layer_word layer) };
+
+    fn fmt<W: fmt::Write>(&self, f: &mut fmt::Formatter<W>) -> fmt::Result {
+        f.write_str(self.word())
+    }
+}
+
+// A ground goes by its number outside; inside, faults are enums, each case of which stands for one refusal.
 #[derive(Clone, Copy, PartialEq, Eq, Debug)]
 pub struct Refusal {
     pub number: u8,
     pub layer: Layer,
     pub place: u64,
+}
+
+impl fmt::Display for Refusal {
+    ghost output = { λ refusal. Some (refusal_words refusal) };
+
+    fn fmt<W: fmt::Write>(&self, f: &mut fmt::Formatter<W>) -> fmt::Result {
+        write!(f, "{} {} {}", self.number, self.layer, self.place)
+    }
 }
 
 // Why a call was refused: each case of a fault stands for one refusal.
@@ -61,13 +79,15 @@ pub trait Fault {
     }
 }
 
-// Why something could not be made: it was refused on a ground, or there was no memory, which has no number.
+// Why something could not be made: it was refused on a ground, or there was no memory, which has no number. An `Option` of
+// the ground would read as no fault where there was no memory.
 #[derive(Clone, Copy, Debug)]
 pub enum Unmade<F> {
     Refused(F),
     Memory,
 }
 
+// By hand, since its contract names the case.
 impl<F> From<AllocError> for Unmade<F> {
     ghost from_gives = { λ _ r. r ≡ Memory };
 

@@ -7,7 +7,7 @@ ghost use Rattle.texts.specs.Stocks.{Texts, Sound, spelling, same_text, if_known
 
 use crate::refusal::{Fault, Layer, Refusal};
 
-// A text is a number that its stock reads.
+// A text is a number that its stock reads. It derives no comparison, since two numbers may read as one text.
 #[derive(Clone, Copy, Debug)]
 pub struct Text {
     pub number: u64,
@@ -74,13 +74,6 @@ impl Fault for StockFault {
     }
 }
 
-// Whether two texts have the same bytes.
-fn equal(a: &[u8], b: &[u8]) -> bool
-    ensures { result ≡ bytes_eq a.now b.now }
-{
-    a == b
-}
-
 pub trait Stock {
     // Which texts are known, and how each reads.
     ghost meaning: { Self → Texts };
@@ -109,7 +102,7 @@ pub trait Stock {
     fn same(&self, a: Text, b: Text) -> bool
         ensures { result ≡ same_text (meaning self.now) a b }
     {
-        equal(self.bytes(a), self.bytes(b))
+        self.bytes(a) == self.bytes(b)
     }
 
     // The text that a well-known one became at the making.

@@ -6,12 +6,9 @@ use Rattle.texts.specs.Outcomes.Outcome.{taken, refused}
 use Rattle.vec_map.specs.Maps.{Map}
 use Rattle.map_table.proofs.Placed.{answers-carry}
 use Rattle.span.specs.Model.{Maps}
+use Rattle.span.proofs.Carried.{carry-carry}
 use Rattle.v04.specs.Edits.{both, pair}
 use Rattle.v04.specs.Maps.{beside}
-
-pub carry-carry : {X Y Z R F : Type 0} (f : X → Y) (g : Y → Z) (o : Outcome X R F) → carry g (carry f o) ≡ carry (λ x. g (f x)) o
-carry-carry f g (taken x a) = refl
-carry-carry f g (refused e) = refl
 
 module _ {R F : Type 0} (none : F) (whole : Maps → Outcome Maps R F) where
   -- a call that works on the first map alone
@@ -21,12 +18,12 @@ module _ {R F : Type 0} (none : F) (whole : Maps → Outcome Maps R F) where
   at_first call is (m ∷ ms) [] i h = absurd (omega arith)
   at_first call is (m ∷ ms) (n ∷ ns) zero h =
       ap (carry (λ y. y ∷ beside ms ns)) (is m n)
-      ∙ carry-carry (λ x. pair x n) (λ y. y ∷ beside ms ns) (call m)
-      ∙ sym (carry-carry (λ x. x ∷ ms) (λ xs. beside xs (n ∷ ns)) (call m))
+      ∙ carry-carry (λ y. y ∷ beside ms ns) (λ x. pair x n) (call m)
+      ∙ sym (carry-carry (λ xs. beside xs (n ∷ ns)) (λ x. x ∷ ms) (call m))
   at_first call is (m ∷ ms) (n ∷ ns) (suc i) h =
       ap (carry (λ ys. pair m n ∷ ys)) (at_first call is ms ns i (omega arith))
-      ∙ carry-carry (λ xs. beside xs ns) (λ ys. pair m n ∷ ys) (at_place none call ms i)
-      ∙ sym (carry-carry (λ xs. m ∷ xs) (λ xs. beside xs (n ∷ ns)) (at_place none call ms i))
+      ∙ carry-carry (λ ys. pair m n ∷ ys) (λ xs. beside xs ns) (at_place none call ms i)
+      ∙ sym (carry-carry (λ xs. beside xs (n ∷ ns)) (λ xs. m ∷ xs) (at_place none call ms i))
 
   -- a call that works on the second map alone
   pub at_second : (call : Map Text ℕ → Outcome (Map Text ℕ) R F) → ((m : Map Text Text) (n : Map Text ℕ) → whole (pair m n) ≡ carry (λ x. pair m x) (call n))
@@ -36,12 +33,12 @@ module _ {R F : Type 0} (none : F) (whole : Maps → Outcome Maps R F) where
   at_second call is (m ∷ ms) [] i h = absurd (omega arith)
   at_second call is (m ∷ ms) (n ∷ ns) zero h =
       ap (carry (λ y. y ∷ beside ms ns)) (is m n)
-      ∙ carry-carry (λ x. pair m x) (λ y. y ∷ beside ms ns) (call n)
-      ∙ sym (carry-carry (λ x. x ∷ ns) (λ xs. beside (m ∷ ms) xs) (call n))
+      ∙ carry-carry (λ y. y ∷ beside ms ns) (λ x. pair m x) (call n)
+      ∙ sym (carry-carry (λ xs. beside (m ∷ ms) xs) (λ x. x ∷ ns) (call n))
   at_second call is (m ∷ ms) (n ∷ ns) (suc i) h =
       ap (carry (λ ys. pair m n ∷ ys)) (at_second call is ms ns i (omega arith))
-      ∙ carry-carry (λ xs. beside ms xs) (λ ys. pair m n ∷ ys) (at_place none call ns i)
-      ∙ sym (carry-carry (λ xs. n ∷ xs) (λ xs. beside (m ∷ ms) xs) (at_place none call ns i))
+      ∙ carry-carry (λ ys. pair m n ∷ ys) (λ xs. beside ms xs) (at_place none call ns i)
+      ∙ sym (carry-carry (λ xs. beside (m ∷ ms) xs) (λ xs. n ∷ xs) (at_place none call ns i))
 
   -- a call that works on both
   pub at_both : (call : Map Text Text → Outcome (Map Text Text) R F) (call' : Map Text ℕ → Outcome (Map Text ℕ) R F) → ((m : Map Text Text) (n : Map Text ℕ) → whole (pair m n) ≡ both pair (call m) (call' n))

@@ -1,21 +1,17 @@
 -- What is read of a row with its values typed, by what is read of the row.
-use Rattle.std.proofs.Common.{◌≡◌, ℕ, zero, suc, ◌≤◌, List, [], ◌∷◌, map, length, replicate, Some, None, Option, sym, refl, ap, ◌∙◌, arith}
-use Rattle.std.proofs.lemmas.List.{length-map}
+use Rattle.std.proofs.Common.{◌≡◌, ℕ, zero, suc, ◌≤◌, List, [], ◌∷◌, length, Some, None, Option, refl, ap, ◌∙◌, arith}
 use Rattle.std.specs.Option.{option_map, option_flatten}
 use Rattle.std.specs.Str.{bytes_eq}
 use Rattle.texts.specs.declared.stock.Text.{Text}
 use Rattle.texts.specs.Stocks.{Texts}
-use Rattle.vec_map.specs.declared.entry.Entry.{Entry}
 use Rattle.vec_map.specs.Entries.{entry_at}
 use Rattle.vec_map.specs.Maps.{Map}
 use Rattle.vec_map.specs.Readings.{reads}
-use Rattle.map_table.specs.declared.rows.Row.{Row}
 use Rattle.map_table.specs.Rows.{in_row}
 use Rattle.span.specs.declared.value.Value.{Value}
 use Rattle.span.specs.declared.value.Value.TheVariants as of
 use Rattle.span.specs.Readings.{read_in, maps_at}
-use Rattle.span.specs.Tables.{row_of}
-use Rattle.v04.specs.Maps.{typed_entry, typed, typed_at, beside}
+use Rattle.v04.specs.Maps.{typed, typed_at, beside}
 use Rattle.v04.proofs.TypedMaps.{reads-typed}
 
 module _ {V : Type 0} (f : V → Value) where
@@ -25,21 +21,6 @@ module _ {V : Type 0} (f : V → Value) where
 
   pub read_at : (t : Texts) (q : List ℕ) (ms : List (Map Text V)) (i : ℕ) → read_in t (typed_at f ms i) q ≡ option_map f (in_row (λ m. reads t m.entries q) ms i)
   read_at t q ms i = read_typed t q (entry_at ms i)
-
-  -- m is the map at the place i
-  pub row_typed : (m : Map Text V) (ms : List (Map Text V)) (i : ℕ) (r : Row) → Some m ≡ entry_at ms i → r.len ≡ length m.entries → r.deduped ≡ m.deduped → Some r ≡ option_map row_of (typed_at f ms i)
-  row_typed m ms i r at len flag =
-      ap (λ n. Some (record { len = n; deduped = r.deduped })) (len ∙ sym (length-map m.entries (typed_entry f)))
-      ∙ ap (λ b. Some (record { len = length (typed f m).entries; deduped = b })) flag
-      ∙ ap (λ o. option_map row_of (option_map (typed f) o)) at
-
-  entry_typed : (es : List (Entry Text V)) (j : ℕ) → option_map (typed_entry f) (entry_at es j) ≡ entry_at (map (typed_entry f) es) j
-  entry_typed [] j = refl
-  entry_typed (e ∷ es) zero = refl
-  entry_typed (e ∷ es) (suc j) = entry_typed es j
-
-  pub entry_typed_at : (m : Map Text V) (ms : List (Map Text V)) (i j : ℕ) (o : Option (Entry Text V)) → Some m ≡ entry_at ms i → o ≡ entry_at m.entries j → option_map (typed_entry f) o ≡ option_flatten (option_map (λ n. entry_at n.entries j) (typed_at f ms i))
-  entry_typed_at m ms i j o at is = ap (option_map (typed_entry f)) is ∙ entry_typed m.entries j ∙ ap (λ p. option_flatten (option_map (λ n. entry_at n.entries j) (option_map (typed f) p))) at
 
 -- the maps of the span at a place, by their numbers
 pub first-at : (ms : List (Map Text Text)) (ns : List (Map Text ℕ)) (i : ℕ) → length ns ≡ length ms → entry_at (maps_at (beside ms ns) i) 0 ≡ typed_at of.Text ms i
@@ -68,9 +49,3 @@ map-2 (m ∷ ms) (n ∷ ns) zero zero le = absurd (omega arith)
 map-2 (m ∷ ms) (n ∷ ns) zero (suc zero) le = absurd (omega arith)
 map-2 (m ∷ ms) (n ∷ ns) zero (suc (suc j)) le = refl
 map-2 (m ∷ ms) (n ∷ ns) (suc i) j le = map-2 ms ns i j le
-
--- a chunk has none
-pub none_of_chunk : (n p j : ℕ) → entry_at (maps_at (replicate n []) p) j ≡ None
-none_of_chunk zero p j = refl
-none_of_chunk (suc n) zero j = refl
-none_of_chunk (suc n) (suc p) j = none_of_chunk n p j

@@ -15,7 +15,8 @@ use Rattle.span.specs.Edits.{insert_home, each_map, all_distinct, claim_all}
 use Rattle.span.specs.Model.{Maps}
 use Rattle.v04.specs.Edits.{both, pair, and_both}
 use Rattle.v04.specs.Maps.{typed, beside}
-use Rattle.v04.proofs.Calls.{carry-carry, at_first, at_second, at_both}
+use Rattle.span.proofs.Carried.{carry-carry}
+use Rattle.v04.proofs.Calls.{at_first, at_second, at_both}
 use Rattle.v04.proofs.TypedMaps.{distinct-typed, removed-typed, tidied-typed, insert_typed}
 
 -- whether keys stand twice in one of the two maps of a span
@@ -33,15 +34,15 @@ module _ (ms : List (Map Text Text)) (ns : List (Map Text ℕ)) (i : ℕ) (paire
   pub insert_first : (st : ℕ) (k v : Text) → at_place NoPlace (insert_home st (Some 0) k (of.Text v)) (beside ms ns) i ≡ carry (λ xs. beside xs ns) (at_place NoPlace (insert_into st k v) ms i)
   insert_first st k v =
       at_first NoPlace (insert_home st (Some 0) k (of.Text v)) (insert_into st k v)
-      (λ m n. ap (carry (λ y. y ∷ (typed of.Float n ∷ []))) (insert_typed of.Text st k v m) ∙ carry-carry (typed of.Text) (λ y. y ∷ (typed of.Float n ∷ [])) (insert_into st k v m))
+      (λ m n. ap (carry (λ y. y ∷ (typed of.Float n ∷ []))) (insert_typed of.Text st k v m) ∙ carry-carry (λ y. y ∷ (typed of.Float n ∷ [])) (typed of.Text) (insert_into st k v m))
       ms ns i paired
 
   pub insert_second : (st : ℕ) (k : Text) (v : ℕ) → at_place NoPlace (insert_home st (Some 1) k (of.Float v)) (beside ms ns) i ≡ carry (λ xs. beside ms xs) (at_place NoPlace (insert_into st k v) ns i)
   insert_second st k v =
       at_second NoPlace (insert_home st (Some 1) k (of.Float v)) (insert_into st k v)
       (λ m n. ap (λ o. carry (λ ys. typed of.Text m ∷ ys) (carry (λ y. y ∷ []) o)) (insert_typed of.Float st k v n)
-      ∙ ap (carry (λ ys. typed of.Text m ∷ ys)) (carry-carry (typed of.Float) (λ y. y ∷ []) (insert_into st k v n))
-      ∙ carry-carry (λ x. typed of.Float x ∷ []) (λ ys. typed of.Text m ∷ ys) (insert_into st k v n))
+      ∙ ap (carry (λ ys. typed of.Text m ∷ ys)) (carry-carry (λ y. y ∷ []) (typed of.Float) (insert_into st k v n))
+      ∙ carry-carry (λ ys. typed of.Text m ∷ ys) (λ x. typed of.Float x ∷ []) (insert_into st k v n))
       ms ns i paired
 
   pub remove_both : (same : Text → Text → Bool) (k : Text) → at_place NoPlace (each_map (removed same k)) (beside ms ns) i ≡ both beside (at_place NoPlace (always (removed same k)) ms i) (at_place NoPlace (always (removed same k)) ns i)

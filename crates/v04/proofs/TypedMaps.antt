@@ -33,10 +33,6 @@ module _ {V : Type 0} (f : V → Value) where
   holds_typed test [] = refl
   holds_typed test (e ∷ es) = ap (λ b. test e.key || b) (holds_typed test es)
 
-  holds_key-typed : (same : Text → Text → Bool) (k : Text) (es : List (Entry Text V)) → holds_key same (map (typed_entry f) es) k ≡ holds_key same es k
-  holds_key-typed same k [] = refl
-  holds_key-typed same k (e ∷ es) = ap (λ b. same e.key k || b) (holds_key-typed same k es)
-
   without-typed : (same : Text → Text → Bool) (k : Text) (es : List (Entry Text V)) → without same (map (typed_entry f) es) k ≡ map (typed_entry f) (without same es k)
   without-typed same k [] = refl
   without-typed same k (e ∷ es) = map-keep (typed_entry f) (not (same e.key k)) e (without same es k) _ (without-typed same k es)
@@ -44,13 +40,13 @@ module _ {V : Type 0} (f : V → Value) where
   lasts-typed : (same : Text → Text → Bool) (es : List (Entry Text V)) → lasts same (map (typed_entry f) es) ≡ map (typed_entry f) (lasts same es)
   lasts-typed same [] = refl
   lasts-typed same (e ∷ es) =
-      ap (λ b. cond b (lasts same (map (typed_entry f) es)) (typed_entry f e ∷ lasts same (map (typed_entry f) es))) (holds_key-typed same e.key es)
+      ap (λ b. cond b (lasts same (map (typed_entry f) es)) (typed_entry f e ∷ lasts same (map (typed_entry f) es))) (holds_typed (λ q. same q e.key) es)
       ∙ map-drop (typed_entry f) (holds_key same es e.key) e (lasts same es) _ (lasts-typed same es)
 
   pub distinct-typed : (same : Text → Text → Bool) (es : List (Entry Text V)) → distinct same (map (typed_entry f) es) ≡ distinct same es
   distinct-typed same [] = refl
   distinct-typed same (e ∷ es) =
-      ap (λ b. not b && distinct same (map (typed_entry f) es)) (holds_key-typed same e.key es)
+      ap (λ b. not b && distinct same (map (typed_entry f) es)) (holds_typed (λ q. same q e.key) es)
       ∙ ap (λ b. not (holds_key same es e.key) && b) (distinct-typed same es)
 
   pub reads-typed : (test : Text → Bool) (es : List (Entry Text V)) → read_by test (map (typed_entry f) es) ≡ option_map f (read_by test es)

@@ -1,5 +1,5 @@
 pub mod Edits
 pub mod Maps
+pub mod Marks
 pub mod Shown
 pub mod Tables
-pub mod V04EditionLemmas

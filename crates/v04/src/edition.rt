@@ -1,25 +1,17 @@
 // The edition of traces that is called 0.4.
-ghost use Rattle.std.specs.Prelude.{◌≡◌, is_some};
-ghost use Rattle.std.proofs.Common.{ap, ◌∙◌};
-ghost use Rattle.v04.specs.Shown.{v04_view, is_failure};
-ghost use Rattle.v04.specs.Tables.{v04_table};
-ghost use Rattle.span.specs.declared.key.Key.TheVariants.{SpanSamplingMechanism, AnalyticsRate, SamplingPriority};
-ghost use Rattle.span.specs.Keys.{key_bytes};
-ghost use Rattle.span.specs.Resources.{resource_shown};
-ghost use Rattle.span.specs.Sights.{tag_read, number_read, sampled_by};
-ghost use Rattle.span.specs.Sights;
-ghost use Rattle.v04.specs.V04EditionLemmas.{other_mechanism, other_rate, other_priority, texts_read, floats_read};
+ghost use Rattle.v04.specs.Marks.{mark_unseen};
+ghost use Rattle.v04.specs.Shown.{v04_view};
 
-use crate::fields;
 use crate::maps::V04Maps;
 use crate::own::Own;
 use map_table::rows::Row;
 use map_table::table::{Edit, TableFault};
-use span::edition::Edition;
+use span::checks::check_all;
+use span::edition::{ChunkAt, Edition, SpanAt};
 use span::fields::Fields;
 use span::owner::Owner;
+use span::resource::resource_normalized;
 use span::shape::Shape;
-use span::sights;
 use span::tag::{Priority, Tag};
 use span::value::Value;
 use std::alloc::Global;
@@ -39,19 +31,9 @@ impl Edition for V04 {
 
     ghost shown = { v04_view };
 
-    ghost table = { v04_table };
+    ghost table = { λ t. t };
 
-    ghost unseen = { λ t.
-        record {
-          failed = λ x y off. ap (λ f. is_failure f.own.error) off.fields;
-          sampled = λ x y off.
-              ap (λ o. sampled_by (number_read o) (is_some (y.reads 1 (key_bytes AnalyticsRate)))) (floats_read x y off (key_bytes SpanSamplingMechanism) other_mechanism)
-              ∙ ap (λ o. sampled_by (number_read (x.reads 1 (key_bytes SpanSamplingMechanism))) (is_some o)) (floats_read x y off (key_bytes AnalyticsRate) other_rate);
-          priority = λ x y off. ap (λ o. Sights.weighed (number_read o)) (floats_read x y off (key_bytes SamplingPriority) other_priority);
-          resource = λ x y off. ap (λ f. resource_shown (t.bytes f.own.resource) (t.bytes f.own.name)) off.fields;
-          tag = λ x y off q other. ap tag_read (texts_read x y off q);
-          number = λ x y off q other. ap number_read (floats_read x y off q other);
-        } };
+    ghost unseen = { mark_unseen };
 
     fn begin(
         heap: Global,
@@ -92,75 +74,50 @@ impl Edition for V04 {
     }
 
     fn check_span<S: Stock>(stock: &S, fields: &Fields<Own>) -> Result<(), StockFault> {
-        fields::check_span(stock, fields)
+        let own = &fields.own;
+        let texts = [fields.service, own.name, own.resource, own.span_type];
+        check_all(stock, &texts)
     }
 
-    fn check_chunk<S: Stock>(stock: &S, head: &()) -> Result<(), StockFault> {
+    fn check_chunk<S: Stock>(_stock: &S, _head: &()) -> Result<(), StockFault> {
         Ok(())
     }
 
-    fn failed<S: Stock>(stock: &S, fields: &Fields<Own>, maps: &V04Maps, row: usize) -> bool {
-        fields::failed(fields)
+    fn failed<S: Stock>(_stock: &S, span: &SpanAt<'_, Own, V04Maps>) -> bool {
+        span.fields.own.error == 1
     }
 
-    fn sampled<S: Stock>(stock: &S, fields: &Fields<Own>, maps: &V04Maps, row: usize) -> bool {
-        maps.sampled(stock, row)
+    fn sampled<S: Stock>(stock: &S, span: &SpanAt<'_, Own, V04Maps>) -> bool {
+        span.maps.sampled(stock, span.row)
     }
 
-    fn priority<S: Stock>(
-        stock: &S,
-        fields: &Fields<Own>,
-        maps: &V04Maps,
-        row: usize,
-    ) -> Option<Priority> {
-        maps.priority(stock, row)
+    fn priority<S: Stock>(stock: &S, span: &SpanAt<'_, Own, V04Maps>) -> Option<Priority> {
+        span.maps.priority(stock, span.row)
     }
 
-    fn resource<'a, S: Stock>(
-        stock: &'a S,
-        fields: &Fields<Own>,
-        maps: &V04Maps,
-        row: usize,
-    ) -> &'a [u8] {
-        fields::resource(stock, fields)
+    // As in the other edition, whose own fields are another struct: a trait for the two names would be longer.
+    fn resource<'a, S: Stock>(stock: &'a S, span: &SpanAt<'_, Own, V04Maps>) -> &'a [u8] {
+        let own = &span.fields.own;
+        resource_normalized(stock.bytes(own.resource), stock.bytes(own.name))
     }
 
-    fn tag<S: Stock>(
-        stock: &S,
-        fields: &Fields<Own>,
-        maps: &V04Maps,
-        row: usize,
-        key: &[u8],
-    ) -> Option<Tag> {
-        maps.tag(stock, row, key)
+    fn tag<S: Stock>(stock: &S, span: &SpanAt<'_, Own, V04Maps>, key: &[u8]) -> Option<Tag> {
+        span.maps.tag(stock, span.row, key)
     }
 
-    fn number<S: Stock>(
-        stock: &S,
-        fields: &Fields<Own>,
-        maps: &V04Maps,
-        row: usize,
-        key: &[u8],
-    ) -> Option<f64> {
-        maps.number(stock, row, key)
+    fn number<S: Stock>(stock: &S, span: &SpanAt<'_, Own, V04Maps>, key: &[u8]) -> Option<f64> {
+        span.maps.number(stock, span.row, key)
     }
 
-    fn chunk_priority<S: Stock>(
-        stock: &S,
-        head: &(),
-        maps: &V04Maps,
-        row: usize,
-    ) -> Option<Priority> {
-        sights::weighed(None)
+    fn chunk_priority<S: Stock>(_stock: &S, _chunk: &ChunkAt<'_, (), V04Maps>) -> Option<Priority> {
+        None
     }
 
     fn chunk_tag<S: Stock>(
-        stock: &S,
-        head: &(),
-        maps: &V04Maps,
-        row: usize,
-        key: &[u8],
+        _stock: &S,
+        _chunk: &ChunkAt<'_, (), V04Maps>,
+        _key: &[u8],
     ) -> Option<Tag> {
-        sights::tag_read(None)
+        None
     }
 }

@@ -3,7 +3,6 @@
 #![tactic(auto)]
 
 pub mod edition;
-mod fields;
 pub mod maps;
 pub mod own;
 mod rows;

@@ -6,6 +6,7 @@ ghost use Rattle.span.specs.declared.value.Value.TheVariants as of;
 use span::value::Value;
 use texts::stock::Text;
 
+// `Into` says only how a value and what it becomes are related; the meaning of a table maps this function over its values.
 pub trait Typed: Copy {
     ghost value: { Self → Held };
 

@@ -1,3 +1,2 @@
-mod Carried
 mod Calls
 mod Single

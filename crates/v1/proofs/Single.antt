@@ -1,18 +1,15 @@
 -- What is read of a row of one map.
 use Rattle.std.proofs.Common.{◌≡◌, ℕ, zero, suc, ◌<◌, List, [], ◌∷◌, map, None, sym, refl, ap, ◌∙◌, arith}
 use Rattle.texts.specs.declared.stock.Text.{Text}
-use Rattle.texts.specs.Stocks.{Texts}
 use Rattle.vec_map.specs.Entries.{entry_at}
 use Rattle.vec_map.specs.Maps.{Map}
-use Rattle.vec_map.specs.Readings.{reads}
-use Rattle.map_table.specs.Rows.{in_row, maps_of}
+use Rattle.map_table.specs.declared.table.MapTable.{MapTable}
+use Rattle.map_table.specs.Rows.{maps_of}
 use Rattle.span.specs.declared.owner.Owner.{Owner}
 use Rattle.span.specs.declared.owner.Owner.TheVariants as at
 use Rattle.span.specs.declared.value.Value.{Value}
-use Rattle.span.specs.Model.{Bytes}
-use Rattle.span.specs.Readings.{readings, maps_at}
-use Rattle.span.specs.Tables.{owner_map, owner_maps}
-use Rattle.v1.specs.declared.maps.V1Maps.{V1Maps}
+use Rattle.span.specs.Readings.{maps_at}
+use Rattle.span.specs.Tables.{Table, owner_map, owner_maps}
 use Rattle.v1.specs.Tables.{single, v1_table}
 
 -- the first map of a row is the map, and there is no other
@@ -27,16 +24,10 @@ other_single (m ∷ ms) zero zero lt = absurd (omega arith)
 other_single (m ∷ ms) zero (suc which) lt = refl
 other_single (m ∷ ms) (suc p) which lt = other_single ms p which lt
 
--- so a reading of the row is one of the map
-pub read_single : (t : Texts) (ms : List (Map Text Value)) (p : ℕ) (q : Bytes) → in_row (λ m. reads t m.entries q) ms p ≡ readings t (maps_at (map single ms) p) 0 q
-read_single t [] p q = refl
-read_single t (m ∷ ms) zero q = refl
-read_single t (m ∷ ms) (suc p) q = read_single t ms p q
-
 -- an owner has its row's map as the first, and no other
-pub owner_single : (t : V1Maps) (o : Owner) (ms : List (Map Text Value)) (p which : ℕ) → which ≡ 0 → owner_maps o (v1_table t) ≡ maps_at (map single ms) p → entry_at ms p ≡ owner_map o which (v1_table t)
+pub owner_single : (t : Table) (o : Owner) (ms : List (Map Text Value)) (p which : ℕ) → which ≡ 0 → owner_maps o t ≡ maps_at (map single ms) p → entry_at ms p ≡ owner_map o which t
 owner_single t o ms p which first is = sym (ap (λ xs. entry_at xs which) is ∙ ap (entry_at (maps_at (map single ms) p)) first ∙ first-single ms p)
 
-pub owner_other : (t : V1Maps) (o : Owner) (which : ℕ) → 0 < which → None ≡ owner_map o which (v1_table t)
-owner_other t (at.Span p) which lt = sym (other_single (maps_of t.spans) p which lt)
-owner_other t (at.Chunk p) which lt = sym (other_single (maps_of t.chunks) p which lt)
+pub owner_other : (ss cs : MapTable Value) (o : Owner) (which : ℕ) → 0 < which → None ≡ owner_map o which (v1_table ss cs)
+owner_other ss cs (at.Span p) which lt = sym (other_single (maps_of ss) p which lt)
+owner_other ss cs (at.Chunk p) which lt = sym (other_single (maps_of cs) p which lt)

@@ -7,21 +7,17 @@ use Rattle.map_table.specs.Rows.{maps_of}
 use Rattle.span.specs.declared.value.Value.{Value}
 use Rattle.span.specs.Model.{Maps}
 use Rattle.span.specs.Tables.{Table}
-use Rattle.v1.specs.declared.maps.V1Maps.{V1Maps}
 
 -- one map alone
 abbrev pub single : Map Text Value → Maps
 single m = m ∷ []
 
 -- the spans' table and the chunks'
-abbrev pub both : MapTable Value → MapTable Value → Table
-both spans chunks = record {
+abbrev pub v1_table : MapTable Value → MapTable Value → Table
+v1_table spans chunks = record {
   stride = chunks.stride;
   chunk_room = chunks.room;
   span_room = spans.room;
   chunks = map single (maps_of chunks);
   spans = map single (maps_of spans);
 }
-
-abbrev pub v1_table : V1Maps → Table
-v1_table t = both t.spans t.chunks

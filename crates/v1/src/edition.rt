@@ -1,18 +1,18 @@
 // The edition of traces that is called 1.
 ghost use Rattle.v1.specs.Shown.{v1_view};
-ghost use Rattle.v1.specs.Tables.{v1_table};
 ghost use Rattle.v1.specs.Marks.{mark_unseen};
 
-use crate::checks::{check_chunk, check_span};
 use crate::chunk::Head;
 use crate::maps::V1Maps;
 use crate::own::Own;
-use crate::shown::{priority_of, resource_of};
+use crate::shown::priority_of;
 use map_table::rows::Row;
 use map_table::table::{Edit, TableFault};
-use span::edition::Edition;
+use span::checks::check_all;
+use span::edition::{ChunkAt, Edition, SpanAt};
 use span::fields::Fields;
 use span::owner::Owner;
+use span::resource::resource_normalized;
 use span::shape::Shape;
 use span::sights::{number_read, tag_read};
 use span::tag::{Priority, Tag};
@@ -33,9 +33,9 @@ impl Edition for V1 {
 
     ghost shown = { v1_view };
 
-    ghost table = { v1_table };
+    ghost table = { λ t. t };
 
-    ghost unseen = { λ t. mark_unseen t };
+    ghost unseen = { mark_unseen };
 
     fn begin(
         heap: Global,
@@ -76,76 +76,61 @@ impl Edition for V1 {
     }
 
     fn check_span<S: Stock>(stock: &S, fields: &Fields<Own>) -> Result<(), StockFault> {
-        check_span(stock, fields)
+        let own = &fields.own;
+        check_all(
+            stock,
+            &[
+                fields.service,
+                own.name,
+                own.resource,
+                own.span_type,
+                own.env,
+                own.version,
+                own.component,
+            ],
+        )
     }
 
     fn check_chunk<S: Stock>(stock: &S, head: &Head) -> Result<(), StockFault> {
-        check_chunk(stock, head)
+        stock.check(head.origin)
     }
 
-    fn failed<S: Stock>(_stock: &S, fields: &Fields<Own>, _maps: &V1Maps, _row: usize) -> bool {
-        fields.own.error
+    fn failed<S: Stock>(_stock: &S, span: &SpanAt<'_, Own, V1Maps>) -> bool {
+        span.fields.own.error
     }
 
-    fn sampled<S: Stock>(stock: &S, _fields: &Fields<Own>, maps: &V1Maps, row: usize) -> bool {
-        maps.sampled(stock, row)
+    fn sampled<S: Stock>(stock: &S, span: &SpanAt<'_, Own, V1Maps>) -> bool {
+        span.maps.sampled(stock, span.row)
     }
 
     // A v1 span says nothing of its chunk's priority.
-    fn priority<S: Stock>(
-        _stock: &S,
-        _fields: &Fields<Own>,
-        _maps: &V1Maps,
-        _row: usize,
-    ) -> Option<Priority> {
+    fn priority<S: Stock>(_stock: &S, _span: &SpanAt<'_, Own, V1Maps>) -> Option<Priority> {
         None
     }
 
-    fn resource<'a, S: Stock>(
-        stock: &'a S,
-        fields: &Fields<Own>,
-        _maps: &V1Maps,
-        _row: usize,
-    ) -> &'a [u8] {
-        resource_of(stock, &fields.own)
+    // As in the other edition, whose own fields are another struct: a trait for the two names would be longer.
+    fn resource<'a, S: Stock>(stock: &'a S, span: &SpanAt<'_, Own, V1Maps>) -> &'a [u8] {
+        let own = &span.fields.own;
+        resource_normalized(stock.bytes(own.resource), stock.bytes(own.name))
     }
 
-    fn tag<S: Stock>(
-        stock: &S,
-        fields: &Fields<Own>,
-        maps: &V1Maps,
-        row: usize,
-        key: &[u8],
-    ) -> Option<Tag> {
-        maps.tag(stock, &fields.own, row, key)
+    fn tag<S: Stock>(stock: &S, span: &SpanAt<'_, Own, V1Maps>, key: &[u8]) -> Option<Tag> {
+        span.maps.tag(stock, &span.fields.own, span.row, key)
     }
 
-    fn number<S: Stock>(
-        stock: &S,
-        _fields: &Fields<Own>,
-        maps: &V1Maps,
-        row: usize,
-        key: &[u8],
-    ) -> Option<f64> {
-        number_read(maps.read_span(stock, row, key))
+    fn number<S: Stock>(stock: &S, span: &SpanAt<'_, Own, V1Maps>, key: &[u8]) -> Option<f64> {
+        number_read(span.maps.read_span(stock, span.row, key))
     }
 
-    fn chunk_priority<S: Stock>(
-        _stock: &S,
-        head: &Head,
-        _maps: &V1Maps,
-        _row: usize,
-    ) -> Option<Priority> {
-        priority_of(head)
+    fn chunk_priority<S: Stock>(_stock: &S, chunk: &ChunkAt<'_, Head, V1Maps>) -> Option<Priority> {
+        priority_of(chunk.head)
     }
 
     fn chunk_tag<S: Stock>(
         stock: &S,
-        _head: &Head,
-        maps: &V1Maps,
-        row: usize,
+        chunk: &ChunkAt<'_, Head, V1Maps>,
         key: &[u8],
     ) -> Option<Tag> {
-        tag_read(maps.read_chunk(stock, row, key))
+        tag_read(chunk.maps.read_chunk(stock, chunk.row, key))
     }
 }

@@ -1,8 +1,7 @@
 // The tables of the maps of a v1 batch.
-ghost use Rattle.std.specs.Prelude.{◌≡◌};
-
 use map_table::table::MapTable;
 use span::value::Value;
+use std::marker::Model;
 
 mod edits;
 mod making;
@@ -13,5 +12,16 @@ mod reads;
 pub struct V1Maps {
     spans: MapTable<Value>,
     chunks: MapTable<Value>,
-    ghost alike: { spans.stride ≡ chunks.stride },
+}
+
+impl Model for V1Maps {
+    ghost use Rattle.std.specs.Prelude.{◌≡◌};
+    ghost use Rattle.span.specs.Tables.{Table};
+    ghost use Rattle.v1.specs.Tables.{v1_table};
+
+    ghost Value = { Table };
+
+    ghost view = { λ t. v1_table t.spans t.chunks };
+
+    ghost invariant = { λ t. t.spans.stride ≡ t.chunks.stride };
 }

@@ -2,44 +2,22 @@
 use Rattle.std.proofs.Common.{◌≡◌, ℕ, zero, suc, ◌+◌, ◌<◌, Bool, true, false, cond, not, ◌&&◌, ◌||◌, List, [], ◌∷◌, ◌++◌, reverse, length, get_or, drop, Some, None, sym, refl, ap, ◌∙◌, arith}
 use Rattle.std.proofs.lemmas.Bool.{cases_Bool, or_parts}
 use Rattle.std.proofs.lemmas.List.{reverse-append}
+use Rattle.std.proofs.lemmas.List.Folds.{list_any-append, list_any_at}
+use Rattle.std.proofs.lemmas.List.Sorted.{IsPermutation-reverse, list_any-IsPermutation}
+use Rattle.std.specs.Cmp.{both_ways}
 use Rattle.vec_map.specs.declared.entry.Entry.{Entry}
 use Rattle.vec_map.specs.Keys.{Equivalence}
 use Rattle.vec_map.specs.Entries.{holds_key, reading, without, lasts, distinct, with_value, LastAt}
-use Rattle.vec_map.proofs.Steps.{holds_at}
-
-or_assoc : (a b c : Bool) → (a || (b || c)) ≡ ((a || b) || c)
-or_assoc true b c = refl
-or_assoc false b c = refl
-
-or_comm : (a b : Bool) → (a || b) ≡ (b || a)
-or_comm true true = refl
-or_comm true false = refl
-or_comm false true = refl
-or_comm false false = refl
-
-or_none : (a : Bool) → (a || false) ≡ a
-or_none true = refl
-or_none false = refl
-
--- two tests that are true together are one
-together : (a b : Bool) → (a ≡ true → b ≡ true) → (b ≡ true → a ≡ true) → a ≡ b
-together true b f g = sym (f refl)
-together false true f g = g refl
-together false false f g = refl
 
 module _ {K V : Type 0} (same : K → K → Bool) where
   pub reverse-cons : (e : Entry K V) (es : List (Entry K V)) → reverse (e ∷ es) ≡ reverse es ++ (e ∷ [])
   reverse-cons e es = reverse-append (e ∷ []) es
 
   pub holds_append : (xs ys : List (Entry K V)) (k : K) → holds_key same (xs ++ ys) k ≡ (holds_key same xs k || holds_key same ys k)
-  holds_append [] ys k = refl
-  holds_append (x ∷ xs) ys k = ap (λ b. same x.key k || b) (holds_append xs ys k) ∙ or_assoc (same x.key k) (holds_key same xs k) (holds_key same ys k)
+  holds_append xs ys k = list_any-append (λ e. same e.key k) xs ys
 
   pub holds_reverse : (es : List (Entry K V)) (k : K) → holds_key same (reverse es) k ≡ holds_key same es k
-  holds_reverse [] k = refl
-  holds_reverse (e ∷ es) k =
-      ap (λ xs. holds_key same xs k) (reverse-cons e es) ∙ holds_append (reverse es) (e ∷ []) k ∙ or_comm (holds_key same (reverse es) k) _
-      ∙ ap (λ b. (same e.key k || false) || b) (holds_reverse es k) ∙ ap (λ b. b || holds_key same es k) (or_none (same e.key k))
+  holds_reverse es k = sym (list_any-IsPermutation (λ e. same e.key k) es (reverse es) (IsPermutation-reverse es))
 
   pub reading-none : (es : List (Entry K V)) (k : K) → holds_key same es k ≡ false → reading same es k ≡ None
   reading-none [] k h = refl
@@ -52,13 +30,13 @@ module _ {K V : Type 0} (same : K → K → Bool) where
 module _ {K : Type 0} (same : K → K → Bool) (laws : Equivalence same) where
   -- keys that are the same are like the same keys
   pub same_left : (a b k : K) → same a b ≡ true → same k a ≡ same k b
-  same_left a b k h = together _ _ (λ p. laws.chained k a b p h) (λ p. laws.chained k b a p (laws.flipped a b h))
+  same_left a b k h = both_ways _ _ (λ p. laws.chained k a b p h) (λ p. laws.chained k b a p (laws.flipped a b h))
 
   pub same_right : (a b k : K) → same a b ≡ true → same a k ≡ same b k
-  same_right a b k h = together _ _ (λ p. laws.chained b a k (laws.flipped a b h) p) (λ p. laws.chained a b k h p)
+  same_right a b k h = both_ways _ _ (λ p. laws.chained b a k (laws.flipped a b h) p) (λ p. laws.chained a b k h p)
 
   pub same_flip : (a b : K) → same a b ≡ same b a
-  same_flip a b = together _ _ (laws.flipped a b) (laws.flipped b a)
+  same_flip a b = both_ways _ _ (laws.flipped a b) (laws.flipped b a)
 
 module _ {K V : Type 0} (same : K → K → Bool) (laws : Equivalence same) where
   pub holds_same : (es : List (Entry K V)) (a b : K) → same a b ≡ true → holds_key same es a ≡ holds_key same es b
@@ -118,7 +96,7 @@ module _ {K V : Type 0} (same : K → K → Bool) (laws : Equivalence same) wher
   reading-value [] i v k q d lt here after = absurd (omega arith)
   reading-value (e ∷ es) zero v k q d lt here after = grind (arith, here, after, holds_same es k q, same_right same laws e.key k q here, cases_Bool (same k q), cases_Bool (holds_key same es q))
   reading-value (e ∷ es) (suc i) v k q d lt here after =
-      grind (arith, reading-value es i v k q d (omega arith) here after, holds_value es i v q, holds_at same es i k d (omega arith) here, holds_same es k q, cases_Bool (same k q), cases_Bool (holds_key same es q))
+      grind (arith, reading-value es i v k q d (omega arith) here after, holds_value es i v q, list_any_at (λ e. same e.key k) es i d (omega arith) here, holds_same es k q, cases_Bool (same k q), cases_Bool (holds_key same es q))
 
   pub reading-written : (es : List (Entry K V)) (k : K) (i : ℕ) (v : V) → LastAt same es k i → (q : K) → reading same (with_value es i v) q ≡ cond (same k q) (Some v) (reading same es q)
   reading-written [] k i v l q = let z : i < 0 = l.within in absurd (omega arith)

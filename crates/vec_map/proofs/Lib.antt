@@ -2,5 +2,4 @@ pub mod Tests
 pub mod Steps
 pub mod Laws
 pub mod Moves
-pub mod Firsts
 pub mod Turns

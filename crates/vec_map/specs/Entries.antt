@@ -1,12 +1,11 @@
 -- A list of entries as a map: the last entry with a key counts. Keys are the same where `same` says so.
-use Rattle.std.specs.Prelude.{◌≡◌, ℕ, zero, suc, ◌+◌, ◌<◌, Bool, true, false, cond, not, ◌&&◌, ◌||◌, List, [], ◌∷◌, length, drop, Some, None, filter, Option}
-use Rattle.std.specs.List.{HoldsAt}
+use Rattle.std.specs.Prelude.{◌≡◌, ℕ, zero, suc, ◌+◌, ◌<◌, Bool, true, false, cond, not, ◌&&◌, List, [], ◌∷◌, length, drop, Some, None, filter, slice_get, Option}
+use Rattle.std.specs.List.{HoldsAt, list_any}
 use Rattle.vec_map.specs.declared.entry.Entry.{Entry}
 
 -- some entry has a key that passes the test
 abbrev pub holds_by : {K V : Type 0} → (K → Bool) → List (Entry K V) → Bool
-holds_by test [] = false
-holds_by test (e ∷ es) = test e.key || holds_by test es
+holds_by test es = list_any (λ e. test e.key) es
 
 -- the value of the last entry whose key passes the test
 abbrev pub read_by : {K V : Type 0} → (K → Bool) → List (Entry K V) → Option V
@@ -15,13 +14,11 @@ read_by test (e ∷ es) = cond (holds_by test es) (read_by test es) (cond (test 
 
 -- some entry has the key k
 abbrev pub holds_key : {K V : Type 0} → (K → K → Bool) → List (Entry K V) → K → Bool
-holds_key same [] k = false
-holds_key same (e ∷ es) k = same e.key k || holds_key same es k
+holds_key same es k = holds_by (λ q. same q k) es
 
 -- what k reads: the value of the last entry with that key
 abbrev pub reading : {K V : Type 0} → (K → K → Bool) → List (Entry K V) → K → Option V
-reading same [] k = None
-reading same (e ∷ es) k = cond (holds_key same es k) (reading same es k) (cond (same e.key k) (Some e.value) None)
+reading same es k = read_by (λ q. same q k) es
 
 -- the entries but those of the key k, in their order
 abbrev pub without : {K V : Type 0} → (K → K → Bool) → List (Entry K V) → K → List (Entry K V)
@@ -50,13 +47,9 @@ pub record LastBy {K V : Type 0} (test : K → Bool) (es : List (Entry K V)) (i 
   pub after : holds_by test (drop (i + 1) es) ≡ false
 
 -- the entry at i has the key k, and no later one has it
-pub record LastAt {K V : Type 0} (same : K → K → Bool) (es : List (Entry K V)) (k : K) (i : ℕ) : Type 0 where
-  pub within : i < length es
-  pub here : HoldsAt (λ e. same e.key k ≡ true) es i
-  pub after : holds_key same (drop (i + 1) es) k ≡ false
+abbrev pub LastAt : {K V : Type 0} → (K → K → Bool) → List (Entry K V) → K → ℕ → Type 0
+LastAt same es k i = LastBy (λ q. same q k) es i
 
 -- the entry at i, if there is one
 abbrev pub entry_at : {X : Type 0} → List X → ℕ → Option X
-entry_at [] i = None
-entry_at (x ∷ xs) zero = Some x
-entry_at (x ∷ xs) (suc i) = entry_at xs i
+entry_at xs i = slice_get xs i

@@ -14,8 +14,9 @@ abbrev pub BeyondStays : {K V : Type 0} → VecMap K V → VecMap K V → Type 0
 BeyondStays m n =
     drop (max (length (map_of m).entries) (length (map_of n).entries)) n.entries.now ≡ drop (max (length (map_of m).entries) (length (map_of n).entries)) m.entries.now
 
--- from m to n: n is this map, and no place past both lengths changed; so what is left open is only what lies between a shorter map and the end of the longer one before it
+-- from m to n: n is this map over the same lent slice, and no place past both lengths changed; so what is left open is only what lies between a shorter map and the end of the longer one before it
 pub record Became {K V : Type 0} (m n : VecMap K V) (to : Map K V) : Type 0 where
+  pub lends : n.entries.ghost_name ≡ m.entries.ghost_name
   pub map : map_of n ≡ to
   pub beyond : BeyondStays m n
 

@@ -12,7 +12,7 @@ pub struct Entry<K, V> {
     pub value: V,
 }
 
-// When two keys are the same.
+// When two keys are the same. A trait, and no closure, since each sameness brings its law.
 pub trait Sameness<K> {
     ghost alike: { Self → K → K → Bool };
 

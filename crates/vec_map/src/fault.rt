@@ -38,6 +38,7 @@ impl Fault for MapFault {
     }
 }
 
+// By hand, since its contract names the case.
 impl From<StockFault> for MapFault {
     ghost from_gives = { λ e r. r ≡ carried e };
 

@@ -1,11 +1,12 @@
-// Work on the first entries of a slice, which are a map's.
+// Work on the first `len` entries of a slice, which are a map's. (The slice and its count go together here alone: everywhere
+// else they are a `VecMap`, which these work below.)
 ghost use Rattle.std.specs.Prelude.{◌≡◌, ◌+◌, ◌<◌, Bool, true, [], ◌∷◌, ◌++◌, reverse, length, take, if◌then◌else◌, Some, None};
 ghost use Rattle.vec_map.specs.Keys.{Equivalence};
 ghost use Rattle.vec_map.specs.Entries.{reading, without, lasts, distinct, with_value, LastAt};
 ghost use Rattle.vec_map.specs.Fronts.{Turned};
 
 use crate::entry::{Entry, Sameness};
-use crate::scans::{keep_lasts, keep_others};
+use crate::scans::{has_key, keep};
 
 // Writes an entry behind the first `len`.
 pub(crate) fn append<K: Copy, V: Copy>(entries: &mut [Entry<K, V>], len: usize, entry: Entry<K, V>)
@@ -29,8 +30,7 @@ pub(crate) fn rewrite<K: Copy, V: Copy>(
     ensures reads { (same : K → K → Bool) → Equivalence same → (k : K) → LastAt same (take len entries.old) k place → (q : K) → reading same (take len entries.new) q ≡ (if same k q then Some value else reading same (take len entries.old) q) }
     ensures apart { (same : K → K → Bool) → Equivalence same → distinct same (take len entries.new) ≡ distinct same (take len entries.old) }
 {
-    let e = entries[place];
-    entries[place] = Entry { key: e.key, value };
+    entries[place].value = value;
 }
 
 // Takes every entry of the key out of the first `len`, and says how many are left.
@@ -45,7 +45,7 @@ pub(crate) fn remove_key<K: Copy, V: Copy, S: Sameness<K>>(
     ensures apart { distinct (S.Sameness.alike by.now) (take len entries.old) ≡ true → distinct (S.Sameness.alike by.now) (take result entries.new) ≡ true }
 {
     let n = len.min(entries.len());
-    keep_others(&mut entries[0..n], by, key)
+    keep(&mut entries[..n], |_, e| !by.same_key(&e.key, key))
 }
 
 // Leaves of the first `len` the last entry of each key, the latest first, and says how many they are.
@@ -59,5 +59,7 @@ pub(crate) fn remove_earlier<K: Copy, V: Copy, S: Sameness<K>>(
     ensures apart { distinct (S.Sameness.alike by.now) (take result entries.new) ≡ true }
 {
     let n = len.min(entries.len());
-    keep_lasts(&mut entries[0..n], by)
+    let first = &mut entries[..n];
+    first.reverse();
+    keep(first, |kept, e| !has_key(kept, by, &e.key))
 }

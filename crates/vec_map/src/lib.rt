@@ -6,7 +6,6 @@ mod example;
 pub mod fault;
 mod fronts;
 pub mod map;
-mod matcher;
 mod scans;
 pub mod view;
 

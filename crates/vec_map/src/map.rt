@@ -8,7 +8,8 @@ use crate::entry::Entry;
 mod reads;
 mod writes;
 
-// The first `len` entries of a slice; `deduped` says that no two of them have one key.
+// The first `len` entries of a slice; `deduped` says that no two of them have one key, whether there are any or not. No
+// `Vec`, since a row of a table has its places from the making of the table.
 #[derive(Drop)]
 pub struct VecMap<'a, K, V> {
     entries: &'a mut [Entry<K, V>],
@@ -23,11 +24,7 @@ impl<'a, K: Copy, V: Copy> VecMap<'a, K, V> {
         ensures slice { result.entries.now ≡ entries.old }
         ensures map { map_of result ≡ blank }
     {
-        VecMap {
-            entries,
-            len: 0,
-            deduped: false,
-        }
+        VecMap::over(entries, 0, false)
     }
 
     // The map that the first `len` entries of the slice are, or all of them where there are fewer.

@@ -5,11 +5,10 @@ ghost use Rattle.vec_map.specs.Readings.{reads};
 ghost use Rattle.vec_map.specs.Views.{view_map};
 
 use crate::entry::{Entry, Sameness};
-use crate::matcher::Spelt;
-use crate::scans::{all_distinct, entry_in, last_value, value_of_last_fitting};
+use crate::scans::{all_distinct, last_spelt, last_value};
 use texts::stock::{Stock, Text};
 
-// All entries of a slice; `deduped` says that no two of them have one key.
+// All entries of a slice; `deduped` says that no two of them have one key, whether there are any or not.
 #[derive(Clone, Copy)]
 pub struct MapView<'a, K, V> {
     pub entries: &'a [Entry<K, V>],
@@ -35,7 +34,7 @@ impl<K: Copy, V: Copy> MapView<'_, K, V> {
     pub fn entry(&self, i: usize) -> Option<Entry<K, V>>
         ensures { result ≡ entry_at (view_map self.now).entries i }
     {
-        entry_in(self.entries, i)
+        self.entries.get(i).copied()
     }
 
     // What the key reads: the value of its last entry.
@@ -58,6 +57,6 @@ impl<V: Copy> MapView<'_, Text, V> {
     pub fn read<S: Stock>(&self, stock: &S, key: &[u8]) -> Option<V>
         ensures { result ≡ reads (S.Stock.meaning stock.now) (view_map self.now).entries key.now }
     {
-        value_of_last_fitting(self.entries, &Spelt { stock, bytes: key })
+        last_spelt(self.entries, stock, key)
     }
 }

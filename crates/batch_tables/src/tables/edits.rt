@@ -6,12 +6,13 @@ ghost use Rattle.span.specs.Owners.{owner_place};
 ghost use Rattle.span.specs.Tables.{edit_owner, if_all_known};
 ghost use Rattle.batch_tables.specs.declared.fault.BatchFault.TheVariants.{Map as owned_by};
 ghost use Rattle.batch_tables.specs.Batches.{told_as, after, edit_texts, edit_batch, retold};
-ghost use Rattle.batch_tables.specs.Flags.{StayRight};
-ghost use Rattle.batch_tables.specs.Held.{held, Stands};
+ghost use Rattle.batch_tables.specs.Flags.{Works};
+ghost use Rattle.batch_tables.specs.Held.{Stands};
 
-use crate::fault::{BatchFault, OwnedFault};
+use crate::fault::BatchFault;
 use crate::tables::BatchTables;
 use map_table::table::Edit;
+use span::checks::check_all;
 use span::edition::Edition;
 use span::owner::Owner;
 use span::value::Value;
@@ -23,10 +24,7 @@ fn check_texts<S: Stock>(stock: &S, edit: Edit<Value>) -> Result<(), MapFault>
     ensures { result ≡ answers (told_as of_stock (if_all_known (S.Stock.meaning stock.now) (edit_texts edit))) }
 {
     match edit {
-        Edit::Insert(key, Value::Text(text)) => {
-            stock.check(key)?;
-            stock.check(text)?;
-        }
+        Edit::Insert(key, Value::Text(text)) => check_all(stock, &[key, text])?,
         Edit::Insert(key, _) | Edit::Remove(key) => stock.check(key)?,
         Edit::Dedup | Edit::Claim => {}
     }
@@ -48,22 +46,11 @@ fn edit_known<E: Edition, S: Stock>(
     E::edit(maps, stock, owner, edit)
 }
 
-// What a map's call came to, with the owner's place where it was refused.
-fn named(place: usize, told: Result<(), MapFault>) -> Result<(), OwnedFault>
-    ensures { result ≡ retold (λ f. record { place = place; fault = f }) told }
-{
-    match told {
-        Ok(()) => Ok(()),
-        Err(fault) => Err(OwnedFault { place, fault }),
-    }
-}
-
-// The same, as the batch tells it.
+// What a map's call came to, told of the owner at a place.
 fn owned(place: usize, told: Result<(), MapFault>) -> Result<(), BatchFault>
     ensures { result ≡ retold (owned_by place) told }
 {
-    named(place, told)?;
-    Ok(())
+    told.map_err(|fault| BatchFault::Map(place, fault))
 }
 
 impl<E: Edition> BatchTables<E> {
@@ -74,9 +61,8 @@ impl<E: Edition> BatchTables<E> {
         owner: Owner,
         edit: Edit<Value>,
     ) -> Result<(), BatchFault>
-        requires sound { (held E.Edition.table self.old).sound ≡ true }
-        requires stands { Stands owner self.old }
-        ensures { Came (edit_batch E.Edition.shown (S.Stock.meaning stock.now) edit owner (held E.Edition.table self.old)) (held E.Edition.table self.old) (held E.Edition.table self.new) result }
+        requires { Stands owner self.old.batch }
+        ensures { Came (edit_batch E.Edition.shown (S.Stock.meaning stock.now) edit owner self.old) self.old self.new result }
     {
         let told = edit_known::<E, S>(&mut self.maps, stock, owner, edit);
         owned(owner.place(), told)
@@ -89,7 +75,7 @@ impl<E: Edition> BatchTables<E> {
         owner: Owner,
         edit: Edit<Value>,
     ) -> Result<(), BatchFault>
-        ensures { Came (edit_batch E.Edition.shown (S.Stock.meaning stock.now) edit owner (held E.Edition.table self.old)) (held E.Edition.table self.old) (held E.Edition.table self.new) result }
+        ensures { Came (edit_batch E.Edition.shown (S.Stock.meaning stock.now) edit owner self.old) self.old self.new result }
     {
         self.find(owner)?;
         self.edit_standing(stock, owner, edit)
@@ -102,8 +88,7 @@ impl<E: Edition> BatchTables<E> {
         owner: Owner,
         edit: Edit<Value>,
     ) -> Result<(), BatchFault>
-        ensures came { Came (edit_batch E.Edition.shown (S.Stock.meaning stock.now) edit owner (held E.Edition.table self.old)) (held E.Edition.table self.old) (held E.Edition.table self.new) result }
-        ensures right { StayRight (S.Stock.meaning stock.now) (held E.Edition.table self.old).batch (held E.Edition.table self.new).batch }
+        ensures { Works (S.Stock.meaning stock.now) (edit_batch E.Edition.shown (S.Stock.meaning stock.now) edit owner self.old) self.old self.new result }
     {
         self.edit_found(stock, owner, edit)
     }

@@ -1,20 +1,18 @@
 // Tables handed out to a host, and in from one.
 ghost use Rattle.std.specs.Prelude.{◌≡◌, true, ◌&&◌, vec_len, vec_capacity, ◌==◌};
-ghost use Rattle.map_table.specs.Rows.{stride_fits};
 ghost use Rattle.batch_tables.specs.Handing.{within_room, limits, whole, parts_shape, parts_held, Joined};
-ghost use Rattle.batch_tables.specs.Held.{held};
 ghost use Rattle.batch_tables.specs.Limits.{total};
 
 use crate::fault::BatchFault;
 use crate::limits::{ChunkRow, MOST_CHUNKS, MOST_SPANS, Room};
 use crate::parts::Parts;
 use crate::tables::BatchTables;
-use crate::tables::bounds::same_shape;
-use map_table::table::MOST_PLACES;
+use map_table::table::stride_fits;
 use span::edition::Edition;
 use span::shape::Shape;
 
-// Whether the chunks have so many spans together.
+// Whether the chunks have so many spans together. A loop, since a sum may overflow, and the proof of a `try_fold` stays
+// open.
 fn adds_up<H: Copy>(chunks: &[ChunkRow<H>], spans: usize) -> bool
     ensures { result ≡ (total chunks.now == spans) }
 {
@@ -34,13 +32,6 @@ fn within(chunks: usize, spans: usize, room: Room) -> bool
     ensures { result ≡ within_room chunks spans room }
 {
     chunks <= room.chunks && spans <= room.spans
-}
-
-// Whether a map may have so many places.
-fn stride_fits(stride: usize) -> bool
-    ensures { result ≡ stride_fits stride }
-{
-    stride >= 1 && stride <= MOST_PLACES
 }
 
 impl<E: Edition> Parts<E> {
@@ -74,7 +65,7 @@ impl<E: Edition> Parts<E> {
         ensures { result ≡ whole E.Edition.table self.now }
     {
         adds_up(&self.chunks, self.spans.len())
-            && same_shape(E::shape(&self.maps), self.wanted_shape())
+            && E::shape(&self.maps) == self.wanted_shape()
             && self.is_reserved()
     }
 }
@@ -82,7 +73,8 @@ impl<E: Edition> Parts<E> {
 impl<E: Edition> BatchTables<E> {
     // The tables, as `from_parts` takes them.
     pub fn into_parts(self) -> Parts<E>
-        ensures { parts_held E.Edition.table result ≡ held E.Edition.table self }
+        ensures held { parts_held E.Edition.table result ≡ self }
+        ensures whole { whole E.Edition.table result ≡ true }
     {
         Parts {
             chunks: self.chunks,
@@ -97,7 +89,7 @@ impl<E: Edition> BatchTables<E> {
     fn join(parts: Parts<E>) -> BatchTables<E>
         requires together { whole E.Edition.table parts ≡ true }
         requires few { within_room parts.room.chunks parts.room.spans limits ≡ true }
-        ensures { held E.Edition.table result ≡ parts_held E.Edition.table parts }
+        ensures { result ≡ parts_held E.Edition.table parts }
     {
         let Parts {
             chunks,

@@ -12,12 +12,13 @@ use texts::refusal::Unmade;
 impl<E: Edition> BatchTables<E> {
     // Takes the memory.
     fn make(heap: Global, stride: usize, room: Room) -> Result<BatchTables<E>, Unmade<BatchFault>>
-        ensures { Begun E.Edition.table stride room result }
+        ensures { Begun stride room result }
     {
         let room = Room {
             chunks: room.chunks.min(MOST_CHUNKS),
             spans: room.spans.min(MOST_SPANS),
         };
+        // A match: both types are of other crates, so that no `From` can stand here.
         let maps = match E::begin(heap, stride, room.chunks, room.spans) {
             Ok(maps) => maps,
             Err(TableFault::Stride) => return Err(Unmade::Refused(BatchFault::Stride)),
@@ -41,7 +42,7 @@ impl<E: Edition> BatchTables<E> {
         stride: usize,
         room: Room,
     ) -> Result<BatchTables<E>, Unmade<BatchFault>>
-        ensures { Begun E.Edition.table stride room result }
+        ensures { Begun stride room result }
     {
         BatchTables::make(heap, stride, room)
     }

@@ -1,22 +1,15 @@
 // Asking about one span.
-ghost use Rattle.std.specs.Prelude.{◌≡◌, ◌<◌, true, vec_len, MatchResult};
+ghost use Rattle.std.specs.Prelude.{◌≡◌, ◌<◌, length};
 ghost use Rattle.texts.specs.Outcomes.{answers};
-ghost use Rattle.texts.specs.Outcomes.Outcome.{refused};
-ghost use Rattle.texts.specs.Stocks.{Texts};
-ghost use Rattle.span.specs.Readings.{face_at};
-ghost use Rattle.span.specs.Tables.{if_all_known};
-ghost use Rattle.span.specs.Views.{sight};
+ghost use Rattle.span.specs.Tables.{if_all_known, sight_at};
 ghost use Rattle.batch_tables.specs.declared.fault.BatchFault.TheVariants.{Stock as of_stock};
-ghost use Rattle.batch_tables.specs.Batches.{told_as, retold};
-ghost use Rattle.batch_tables.specs.Held.{held};
+ghost use Rattle.batch_tables.specs.Batches.{all_spans, told_as};
 ghost use Rattle.batch_tables.specs.Queries.{question_texts, reply_to, asked_known, query_batch};
 
 use crate::fault::BatchFault;
 use crate::query::{Question, Reply};
 use crate::tables::BatchTables;
-use span::edition::Edition;
-use span::fields::Fields;
-use span::owner::Owner;
+use span::edition::{Edition, SpanAt};
 use span::questions::{has_top_level, is_measured, is_partial_snapshot};
 use texts::stock::Stock;
 
@@ -31,56 +24,47 @@ fn check_key<S: Stock>(stock: &S, question: Question) -> Result<(), BatchFault>
     Ok(())
 }
 
-// Answers a question on the span with these fields, whose maps stand at a row.
+// Answers a question on a span.
 fn reply<E: Edition, S: Stock>(
     stock: &S,
-    fields: &Fields<E::Own>,
-    maps: &E::Maps,
-    row: usize,
+    span: &SpanAt<'_, E::Own, E::Maps>,
     question: Question,
 ) -> Reply
-    ensures { result ≡ reply_to (S.Stock.meaning stock.now) question (sight E.Edition.shown (S.Stock.meaning stock.now) fields.now (E.Edition.table maps.now).spans row) }
+    ensures { result ≡ reply_to (S.Stock.meaning stock.now) question (sight_at E.Edition.shown E.Edition.table (S.Stock.meaning stock.now) span.now) }
 {
     match question {
-        Question::Tag(key) => Reply::Tag(E::tag(stock, fields, maps, row, stock.bytes(key))),
-        Question::Number(key) => Reply::Number(E::number(
-            stock,
-            fields,
-            maps,
-            row,
-            stock.bytes(key),
-        )),
-        Question::TopLevel => Reply::Flag(has_top_level::<E, S>(stock, fields, maps, row)),
-        Question::Measured => Reply::Flag(is_measured::<E, S>(stock, fields, maps, row)),
-        Question::PartialSnapshot => {
-            Reply::Flag(is_partial_snapshot::<E, S>(stock, fields, maps, row))
-        }
+        Question::Tag(key) => Reply::Tag(E::tag(stock, span, stock.bytes(key))),
+        Question::Number(key) => Reply::Number(E::number(stock, span, stock.bytes(key))),
+        Question::TopLevel => Reply::Flag(has_top_level::<E, S>(stock, span)),
+        Question::Measured => Reply::Flag(is_measured::<E, S>(stock, span)),
+        Question::PartialSnapshot => Reply::Flag(is_partial_snapshot::<E, S>(stock, span)),
     }
 }
 
 // The same, with a key that is known.
 fn answered<E: Edition, S: Stock>(
     stock: &S,
-    fields: &Fields<E::Own>,
-    maps: &E::Maps,
-    row: usize,
+    span: &SpanAt<'_, E::Own, E::Maps>,
     question: Question,
 ) -> Result<Reply, BatchFault>
-    ensures { result ≡ answers (asked_known (S.Stock.meaning stock.now) question (sight E.Edition.shown (S.Stock.meaning stock.now) fields.now (E.Edition.table maps.now).spans row)) }
+    ensures { result ≡ answers (asked_known (S.Stock.meaning stock.now) question (sight_at E.Edition.shown E.Edition.table (S.Stock.meaning stock.now) span.now)) }
 {
     check_key(stock, question)?;
-    Ok(reply::<E, S>(stock, fields, maps, row, question))
+    Ok(reply::<E, S>(stock, span, question))
 }
 
 impl<E: Edition> BatchTables<E> {
     // Answers a question on a span that is there.
     fn ask<S: Stock>(&self, stock: &S, span: usize, question: Question) -> Result<Reply, BatchFault>
-        requires sound { (held E.Edition.table self.now).sound ≡ true }
-        requires stands { span < vec_len self.now.spans }
-        ensures { result ≡ answers (query_batch E.Edition.shown (S.Stock.meaning stock.now) span question (held E.Edition.table self.now)) }
+        requires { span < length (all_spans self.now.batch) }
+        ensures { result ≡ answers (query_batch E.Edition.shown (S.Stock.meaning stock.now) span question self.now) }
     {
-        let fields = self.spans[span];
-        answered::<E, S>(stock, &fields, &self.maps, span, question)
+        let span = SpanAt {
+            fields: &self.spans[span],
+            maps: &self.maps,
+            row: span,
+        };
+        answered::<E, S>(stock, &span, question)
     }
 
     // Answers a question on one span.
@@ -90,7 +74,7 @@ impl<E: Edition> BatchTables<E> {
         span: usize,
         question: Question,
     ) -> Result<Reply, BatchFault>
-        ensures { result ≡ answers (query_batch E.Edition.shown (S.Stock.meaning stock.now) span question (held E.Edition.table self.now)) }
+        ensures { result ≡ answers (query_batch E.Edition.shown (S.Stock.meaning stock.now) span question self.now) }
     {
         self.find_span(span)?;
         self.ask(stock, span, question)

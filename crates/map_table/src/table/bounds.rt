@@ -1,8 +1,15 @@
 // How far a table goes.
 ghost use Rattle.std.specs.Prelude.{◌≡◌, ℕ, ◌+◌, ◌*◌, ◌<◌, ◌≤◌, length, take, vec_len};
-ghost use Rattle.map_table.specs.Rows.{maps_of};
+ghost use Rattle.map_table.specs.Rows.{maps_of, stride_fits};
 
-use crate::table::MapTable;
+use crate::table::{MOST_PLACES, MapTable};
+
+// Whether a row may have so many places.
+pub fn stride_fits(stride: usize) -> bool
+    ensures { result ≡ stride_fits stride }
+{
+    (1..=MOST_PLACES).contains(&stride)
+}
 
 impl<V: Copy> MapTable<V> {
     // How many rows there are.

@@ -11,7 +11,8 @@ use vec_map::entry::{Entry, Sameness};
 use vec_map::fault::MapFault;
 use vec_map::map::VecMap;
 
-// The calls that change one map, as a value, so that a table cuts out a row's places in one way for all of them.
+// The calls that change one map, as a value, so that a table cuts out a row's places in one way for all of them. What
+// each comes to is a definition over the value, which a closure does not give.
 #[derive(Clone, Copy)]
 pub enum Edit<V> {
     Insert(Text, V),
@@ -36,7 +37,6 @@ impl Sameness<Text> for ByNumber {
 impl<V: Copy> Edit<V> {
     // Makes the call on a map.
     fn run<S: Sameness<Text>>(self, map: &mut VecMap<'_, Text, V>, by: &S) -> Result<(), MapFault>
-        ensures lends { map.new.entries.ghost_name ≡ map.old.entries.ghost_name }
         ensures worked { Worked (edit_on (S.Sameness.alike by.now) (length map.old.entries.now) self (map_of map.old)) map.old map.new result }
     {
         match self {
@@ -67,9 +67,5 @@ pub(crate) fn edit_places<V: Copy, S: Sameness<Text>>(
 {
     let mut map = VecMap::over(places, row.len, row.deduped);
     let told = edit.run(&mut map, by);
-    let row = Row {
-        len: map.len(),
-        deduped: map.is_deduped(),
-    };
-    (row, told)
+    (Row::from(map.view()), told)
 }

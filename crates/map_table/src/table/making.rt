@@ -3,9 +3,11 @@ ghost use Rattle.std.specs.Prelude.{◌≡◌};
 ghost use Rattle.map_table.specs.declared.table.TableFault.TheVariants.{Memory as unfilled};
 ghost use Rattle.map_table.specs.Rows.{TableMade};
 
-use crate::table::{MOST_PLACES, MapTable, TableFault};
+use crate::table::bounds::stride_fits;
+use crate::table::{MapTable, TableFault};
 use std::alloc::{AllocError, Global};
 
+// By hand, since its contract names the case.
 impl From<AllocError> for TableFault {
     ghost from_gives = { λ _ r. r ≡ unfilled };
 
@@ -24,12 +26,10 @@ impl<V: Copy> MapTable<V> {
     ) -> Result<MapTable<V>, TableFault>
         ensures { TableMade stride room result }
     {
-        if stride == 0 || stride > MOST_PLACES {
+        if !stride_fits(stride) {
             return Err(TableFault::Stride);
         }
-        let Some(places) = room.checked_mul(stride) else {
-            return Err(TableFault::Memory);
-        };
+        let places = room.checked_mul(stride).ok_or(TableFault::Memory)?;
         let entries = Vec::with_capacity(heap, places)?;
         let rows = Vec::with_capacity(heap, room)?;
         Ok(MapTable {

@@ -4,59 +4,27 @@ ghost use Rattle.map_table.specs.Tables.{rows_fit, parts_fit, maps_in};
 ghost use Rattle.map_table.specs.Rows.{maps_of, stride_fits, TableJoined};
 
 use crate::rows::Row;
-use crate::table::{MOST_PLACES, MapTable, PartsFault};
+use crate::table::bounds::stride_fits;
+use crate::table::{MapTable, PartsFault};
 use texts::stock::Text;
 use vec_map::entry::Entry;
-
-// Whether a row may have so many places.
-fn stride_fits(stride: usize) -> bool
-    ensures { result ≡ stride_fits stride }
-{
-    stride >= 1 && stride <= MOST_PLACES
-}
 
 // Whether no row has more entries than the stride.
 fn rows_fit(rows: &[Row], stride: usize) -> bool
     ensures { result ≡ rows_fit stride rows.now }
 {
-    for row in rows {
-        if row.len > stride {
-            return false;
-        }
-    }
-    true
+    rows.iter().all(|row| row.len <= stride)
 }
 
 // Whether the entries are just the places of the rows, each of which has no more of them than it has places.
 fn parts_fit<V: Copy>(entries: &[Entry<Text, V>], rows: &[Row], stride: usize) -> bool
     ensures { result ≡ parts_fit stride entries.now rows.now }
 {
-    match rows.len().checked_mul(stride) {
-        Some(places) => entries.len() == places && rows_fit(rows, stride),
-        None => false,
-    }
+    rows.len().checked_mul(stride) == Some(entries.len()) && rows_fit(rows, stride)
 }
 
 impl<V: Copy> MapTable<V> {
-    // A table of parts that fit, with room for the rows that it has. Their memory is enough for them.
-    fn join(entries: Vec<Entry<Text, V>>, rows: Vec<Row>, stride: usize, filler: V) -> MapTable<V>
-        requires parts { parts_fit stride entries.items rows.items ≡ true }
-        requires places { stride_fits stride ≡ true }
-        ensures maps { maps_of result ≡ maps_in stride entries.items rows.items }
-        ensures stride { result.stride ≡ stride }
-        ensures room { result.room ≡ length rows.items }
-    {
-        let room = rows.len();
-        MapTable {
-            entries,
-            rows,
-            stride,
-            room,
-            filler,
-        }
-    }
-
-    // The table whose parts these are.
+    // The table whose parts these are, with room for the rows that it has: their memory is enough for them.
     pub fn from_parts(
         entries: Vec<Entry<Text, V>>,
         rows: Vec<Row>,
@@ -71,7 +39,14 @@ impl<V: Copy> MapTable<V> {
         if !stride_fits(stride) {
             return Err(PartsFault::Stride);
         }
-        Ok(MapTable::join(entries, rows, stride, filler))
+        let room = rows.len();
+        Ok(MapTable {
+            entries,
+            rows,
+            stride,
+            room,
+            filler,
+        })
     }
 
     // The entries of all places, and what is kept of each row, as `from_parts` takes them.

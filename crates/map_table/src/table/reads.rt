@@ -12,15 +12,13 @@ use vec_map::entry::{Entry, Sameness};
 use vec_map::view::MapView;
 
 impl<V: Copy> MapTable<V> {
-    // The map of a row, if there is one: every reading call goes through it.
+    // The map over the places of a row, if there is one. The public `row` is a call of it, so that a wrong body of that one is
+    // refused where it stands.
     fn view(&self, row: usize) -> Option<MapView<'_, Text, V>>
         ensures { option_map view_map result ≡ entry_at (maps_of self.now) row }
     {
-        if row >= self.rows.len() {
-            return None;
-        }
+        let kept = self.rows.get(row)?;
         let start = self.start_of(row);
-        let kept = self.rows[row];
         Some(MapView {
             entries: &self.entries[start..start + kept.len],
             deduped: kept.deduped,
@@ -52,35 +50,31 @@ impl<V: Copy> MapTable<V> {
     pub fn get<S: Sameness<Text>>(&self, by: &S, row: usize, key: Text) -> Option<V>
         ensures { result ≡ in_row (λ m. reading (S.Sameness.alike by.now) m.entries key) (maps_of self.now) row }
     {
-        let view = self.view(row)?;
-        view.get(by, &key)
+        self.row(row).and_then(|view| view.get(by, &key))
     }
 
     // How many entries a row has.
     pub fn row_len(&self, row: usize) -> Option<usize>
         ensures { result ≡ option_map (λ m. length m.entries) (entry_at (maps_of self.now) row) }
     {
-        let view = self.view(row)?;
-        Some(view.len())
+        self.row(row).map(|view| view.len())
     }
 
     // Whether a row is flagged as one in which no key stands twice.
     pub fn row_deduped(&self, row: usize) -> Option<bool>
         ensures { result ≡ option_map (λ m. m.deduped) (entry_at (maps_of self.now) row) }
     {
-        let view = self.view(row)?;
-        Some(view.is_deduped())
+        self.row(row).map(|view| view.is_deduped())
     }
 
     // The entry at a place of a row.
     pub fn entry(&self, row: usize, i: usize) -> Option<Entry<Text, V>>
         ensures { result ≡ in_row (λ m. entry_at m.entries i) (maps_of self.now) row }
     {
-        let view = self.view(row)?;
-        view.entry(i)
+        self.row(row).and_then(|view| view.entry(i))
     }
 
-    // The map of a row, if there is one.
+    // The map of a row, if there is one: the calls that ask of one row go through it.
     pub fn row(&self, row: usize) -> Option<MapView<'_, Text, V>>
         ensures { option_map view_map result ≡ entry_at (maps_of self.now) row }
     {
@@ -91,15 +85,13 @@ impl<V: Copy> MapTable<V> {
     pub fn read<S: Stock>(&self, stock: &S, row: usize, key: &[u8]) -> Option<V>
         ensures { result ≡ in_row (λ m. reads (S.Stock.meaning stock.now) m.entries key.now) (maps_of self.now) row }
     {
-        let view = self.view(row)?;
-        view.read(stock, key)
+        self.row(row).and_then(|view| view.read(stock, key))
     }
 
     // Whether no two entries of a row have one key.
     pub fn row_distinct<S: Sameness<Text>>(&self, by: &S, row: usize) -> Option<bool>
         ensures { result ≡ option_map (λ m. distinct (S.Sameness.alike by.now) m.entries) (entry_at (maps_of self.now) row) }
     {
-        let view = self.view(row)?;
-        Some(view.is_distinct(by))
+        self.row(row).map(|view| view.is_distinct(by))
     }
 }

@@ -1,9 +1,9 @@
-// Changing the rows of a table.
+// Changing the rows of a table. What a call leaves is one record (`RowWorked`); only the steps below the calls, and a
+// truncation, which is of no one row, say by themselves that the shape stays.
 ghost use Rattle.std.specs.Prelude.{◌≡◌, ◌<◌, [], ◌∷◌, ◌++◌, take, vec_len, slice_index_or, slice_set};
-ghost use Rattle.texts.specs.Outcomes.{Came, at_place};
 ghost use Rattle.map_table.specs.Edits.{edit_on};
 ghost use Rattle.vec_map.specs.Maps.{blank, removed, tidied, insert_into, claim_on, always};
-ghost use Rattle.map_table.specs.Rows.{maps_of, ShapeStays, row_added, row_copied};
+ghost use Rattle.map_table.specs.Rows.{maps_of, ShapeStays, RowWorked, RowEdited, row_added, row_copied};
 ghost use Rattle.map_table.specs.Tables.{OutsideStays};
 
 use crate::rows::Row;
@@ -21,17 +21,12 @@ impl<V: Copy> MapTable<V> {
         row: usize,
         edit: Edit<V>,
     ) -> Result<(), MapFault>
-        ensures came { Came (at_place MapFault.NoPlace (edit_on (S.Sameness.alike by.now) self.old.stride edit) (maps_of self.old) row) (maps_of self.old) (maps_of self.new) result }
-        ensures outside { OutsideStays self.old.stride row self.old.entries.items self.new.entries.items }
-        ensures shape { ShapeStays self.old self.new }
+        ensures { RowEdited (edit_on (S.Sameness.alike by.now) self.old.stride edit) row self.old self.new result }
     {
-        if row >= self.rows.len() {
-            return Err(MapFault::NoPlace);
-        }
+        let kept = *self.rows.get(row).ok_or(MapFault::NoPlace)?;
         let start = self.start_of(row);
-        let stride = self.stride;
-        let kept = self.rows[row];
-        let (kept, told) = edit_places(&mut self.entries[start..start + stride], kept, by, edit);
+        let end = start + self.stride;
+        let (kept, told) = edit_places(&mut self.entries[start..end], kept, by, edit);
         self.rows[row] = kept;
         told
     }
@@ -43,18 +38,14 @@ impl<V: Copy> MapTable<V> {
         row: usize,
         edit: Edit<V>,
     ) -> Result<(), MapFault>
-        ensures came { Came (at_place MapFault.NoPlace (edit_on (S.Sameness.alike by.now) self.old.stride edit) (maps_of self.old) row) (maps_of self.old) (maps_of self.new) result }
-        ensures outside { OutsideStays self.old.stride row self.old.entries.items self.new.entries.items }
-        ensures shape { ShapeStays self.old self.new }
+        ensures { RowEdited (edit_on (S.Sameness.alike by.now) self.old.stride edit) row self.old self.new result }
     {
         self.edit_row(by, row, edit)
     }
 
     // Appends an entry to a row, and clears its flag. It compares no keys, so any sameness serves.
     pub fn insert(&mut self, row: usize, key: Text, value: V) -> Result<(), MapFault>
-        ensures came { Came (at_place MapFault.NoPlace (insert_into self.old.stride key value) (maps_of self.old) row) (maps_of self.old) (maps_of self.new) result }
-        ensures outside { OutsideStays self.old.stride row self.old.entries.items self.new.entries.items }
-        ensures shape { ShapeStays self.old self.new }
+        ensures { RowEdited (insert_into self.old.stride key value) row self.old self.new result }
     {
         self.edit(&ByNumber, row, Edit::Insert(key, value))
     }
@@ -66,36 +57,28 @@ impl<V: Copy> MapTable<V> {
         row: usize,
         key: Text,
     ) -> Result<(), MapFault>
-        ensures came { Came (at_place MapFault.NoPlace (always (removed (S.Sameness.alike by.now) key)) (maps_of self.old) row) (maps_of self.old) (maps_of self.new) result }
-        ensures outside { OutsideStays self.old.stride row self.old.entries.items self.new.entries.items }
-        ensures shape { ShapeStays self.old self.new }
+        ensures { RowEdited (always (removed (S.Sameness.alike by.now) key)) row self.old self.new result }
     {
         self.edit(by, row, Edit::Remove(key))
     }
 
     // Leaves the last entry of each key in a row, the latest first, and flags it.
     pub fn dedup<S: Sameness<Text>>(&mut self, by: &S, row: usize) -> Result<(), MapFault>
-        ensures came { Came (at_place MapFault.NoPlace (always (tidied (S.Sameness.alike by.now))) (maps_of self.old) row) (maps_of self.old) (maps_of self.new) result }
-        ensures outside { OutsideStays self.old.stride row self.old.entries.items self.new.entries.items }
-        ensures shape { ShapeStays self.old self.new }
+        ensures { RowEdited (always (tidied (S.Sameness.alike by.now))) row self.old self.new result }
     {
         self.edit(by, row, Edit::Dedup)
     }
 
     // Flags a row on the caller's word, which is looked into: keys that stand twice are refused.
     pub fn claim<S: Sameness<Text>>(&mut self, by: &S, row: usize) -> Result<(), MapFault>
-        ensures came { Came (at_place MapFault.NoPlace (claim_on (S.Sameness.alike by.now)) (maps_of self.old) row) (maps_of self.old) (maps_of self.new) result }
-        ensures outside { OutsideStays self.old.stride row self.old.entries.items self.new.entries.items }
-        ensures shape { ShapeStays self.old self.new }
+        ensures { RowEdited (claim_on (S.Sameness.alike by.now)) row self.old self.new result }
     {
         self.edit(by, row, Edit::Claim)
     }
 
     // Appends a row with no entries, where there is room for one more.
     pub fn add_row(&mut self) -> Result<(), MapFault>
-        ensures came { Came (row_added self.old.room (maps_of self.old)) (maps_of self.old) (maps_of self.new) result }
-        ensures outside { OutsideStays self.old.stride (vec_len self.old.rows) self.old.entries.items self.new.entries.items }
-        ensures shape { ShapeStays self.old self.new }
+        ensures { RowWorked (row_added self.old.room (maps_of self.old)) (vec_len self.old.rows) self.old self.new result }
     {
         if self.count() >= self.room {
             return Err(MapFault::Full);
@@ -125,9 +108,7 @@ impl<V: Copy> MapTable<V> {
 
     // Copies the map of one row over that of another; both must be there.
     pub fn copy_row(&mut self, from: usize, to: usize) -> Result<(), MapFault>
-        ensures came { Came (row_copied from to (maps_of self.old)) (maps_of self.old) (maps_of self.new) result }
-        ensures outside { OutsideStays self.old.stride to self.old.entries.items self.new.entries.items }
-        ensures shape { ShapeStays self.old self.new }
+        ensures { RowWorked (row_copied from to (maps_of self.old)) to self.old self.new result }
     {
         let rows = self.count();
         if from >= rows || to >= rows {
@@ -149,8 +130,7 @@ impl<V: Copy> MapTable<V> {
         let target = self.start_of(to);
         let end = source + self.stride;
         self.entries.copy_within(source..end, target);
-        let kept = self.rows[from];
-        self.rows[to] = kept;
+        self.rows[to] = self.rows[from];
     }
 
     // Takes away the rows from a place on, so that a caller can undo what it added.

@@ -2,7 +2,6 @@
 ghost use Rattle.span.specs.Tables.{edit_owner, chunk_row_added, span_row_added};
 ghost use Rattle.texts.specs.Outcomes.{Came};
 ghost use Rattle.v1.specs.Shown.{v1_view};
-ghost use Rattle.v1.specs.Tables.{v1_table};
 
 use crate::maps::V1Maps;
 use map_table::table::Edit;
@@ -14,14 +13,14 @@ use vec_map::fault::MapFault;
 impl V1Maps {
     // Appends the blank map of one chunk more.
     pub(crate) fn add_chunk_row(&mut self) -> Result<(), MapFault>
-        ensures { Came (chunk_row_added v1_view (v1_table self.old)) (v1_table self.old) (v1_table self.new) result }
+        ensures { Came (chunk_row_added v1_view self.old) self.old self.new result }
     {
         self.chunks.add_row()
     }
 
     // Appends the blank map of one span more.
     pub(crate) fn add_span_row(&mut self) -> Result<(), MapFault>
-        ensures { Came (span_row_added v1_view (v1_table self.old)) (v1_table self.old) (v1_table self.new) result }
+        ensures { Came (span_row_added v1_view self.old) self.old self.new result }
     {
         self.spans.add_row()
     }
@@ -33,7 +32,7 @@ impl V1Maps {
         owner: Owner,
         edit: Edit<Value>,
     ) -> Result<(), MapFault>
-        ensures { Came (edit_owner v1_view (S.Stock.meaning stock.now) edit owner (v1_table self.old)) (v1_table self.old) (v1_table self.new) result }
+        ensures { Came (edit_owner v1_view (S.Stock.meaning stock.now) edit owner self.old) self.old self.new result }
     {
         match owner {
             Owner::Span(row) => self.spans.edit(stock, row, edit),

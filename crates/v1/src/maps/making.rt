@@ -1,7 +1,6 @@
 // Making the tables, and how far they go.
-ghost use Rattle.std.specs.Prelude.{◌≡◌, length};
+ghost use Rattle.std.specs.Prelude.{◌≡◌};
 ghost use Rattle.span.specs.Tables.{TablesMade, shape_of};
-ghost use Rattle.v1.specs.Tables.{v1_table};
 
 use crate::maps::V1Maps;
 use map_table::table::{MapTable, TableFault};
@@ -17,7 +16,7 @@ impl V1Maps {
         chunks: usize,
         spans: usize,
     ) -> Result<V1Maps, TableFault>
-        ensures { TablesMade v1_table stride chunks spans result }
+        ensures { TablesMade (λ t. t) stride chunks spans result }
     {
         let filler = Value::Int(0);
         let spans = MapTable::new(heap, stride, spans, filler)?;
@@ -25,30 +24,16 @@ impl V1Maps {
         Ok(V1Maps { spans, chunks })
     }
 
-    // How many chunks have their map.
-    fn chunk_rows(&self) -> usize
-        ensures { result ≡ length (v1_table self.now).chunks }
-    {
-        self.chunks.rows()
-    }
-
-    // How many spans have theirs.
-    fn span_rows(&self) -> usize
-        ensures { result ≡ length (v1_table self.now).spans }
-    {
-        self.spans.rows()
-    }
-
     // The places of each map, the room, and the rows that stand.
     pub(crate) fn shape(&self) -> Shape
-        ensures { result ≡ shape_of (v1_table self.now) }
+        ensures { result ≡ shape_of self.now }
     {
         Shape {
             stride: self.chunks.stride(),
             chunk_room: self.chunks.room(),
             span_room: self.spans.room(),
-            chunks: self.chunk_rows(),
-            spans: self.span_rows(),
+            chunks: self.chunks.rows(),
+            spans: self.spans.rows(),
         }
     }
 }

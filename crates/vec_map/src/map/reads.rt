@@ -2,10 +2,12 @@
 ghost use Rattle.std.specs.Prelude.{◌≡◌, ◌≤◌, min, false, length, take, MatchOption, ◌==◌};
 ghost use Rattle.vec_map.specs.Entries.{holds_key, reading, distinct, LastAt, entry_at};
 ghost use Rattle.vec_map.specs.Slices.{map_of};
+ghost use Rattle.vec_map.specs.Views.{view_map};
 
 use crate::entry::{Entry, Sameness};
 use crate::map::VecMap;
-use crate::scans::{all_distinct, entry_in, has_key, last_place, last_value};
+use crate::scans::{has_key, last_place};
+use crate::view::MapView;
 
 impl<K: Copy, V: Copy> VecMap<'_, K, V> {
     // How many entries of the slice are the map's: never more than there are.
@@ -15,6 +17,17 @@ impl<K: Copy, V: Copy> VecMap<'_, K, V> {
         ensures least { result ≡ min self.now.len (length self.now.entries.now) }
     {
         self.len.min(self.entries.len())
+    }
+
+    // The map, lent to be read: the calls that ask of its entries go through it.
+    pub fn view(&self) -> MapView<'_, K, V>
+        ensures { view_map result ≡ map_of self.now }
+    {
+        let all = &*self.entries;
+        MapView {
+            entries: &all[..self.count()],
+            deduped: self.deduped,
+        }
     }
 
     // How many entries the map has, those of a key that stands twice included.
@@ -44,27 +57,21 @@ impl<K: Copy, V: Copy> VecMap<'_, K, V> {
     pub fn entry(&self, i: usize) -> Option<Entry<K, V>>
         ensures { result ≡ entry_at (map_of self.now).entries i }
     {
-        let n = self.count();
-        let all = &*self.entries;
-        entry_in(&all[0..n], i)
+        self.view().entry(i)
     }
 
     // What the key reads: the value of its last entry.
     pub fn get<S: Sameness<K>>(&self, by: &S, key: &K) -> Option<V>
         ensures { result ≡ reading (S.Sameness.alike by.now) (map_of self.now).entries key.now }
     {
-        let n = self.count();
-        let all = &*self.entries;
-        last_value(&all[0..n], by, key)
+        self.view().get(by, key)
     }
 
     // Whether some entry has the key.
     pub fn contains_key<S: Sameness<K>>(&self, by: &S, key: &K) -> bool
         ensures { result ≡ holds_key (S.Sameness.alike by.now) (map_of self.now).entries key.now }
     {
-        let n = self.count();
-        let all = &*self.entries;
-        has_key(&all[0..n], by, key)
+        has_key(self.view().entries, by, key)
     }
 
     // The place of the last entry with the key, whose value `set_at` then changes.
@@ -73,17 +80,13 @@ impl<K: Copy, V: Copy> VecMap<'_, K, V> {
             (holds_key (S.Sameness.alike by.now) (map_of self.now).entries key.now ≡ false)
             (LastAt (S.Sameness.alike by.now) (map_of self.now).entries key.now) }
     {
-        let n = self.count();
-        let all = &*self.entries;
-        last_place(&all[0..n], by, key)
+        last_place(self.view().entries, by, key)
     }
 
     // Whether no two entries have one key.
     pub(super) fn is_distinct<S: Sameness<K>>(&self, by: &S) -> bool
         ensures { result ≡ distinct (S.Sameness.alike by.now) (map_of self.now).entries }
     {
-        let n = self.count();
-        let all = &*self.entries;
-        all_distinct(&all[0..n], by)
+        self.view().is_distinct(by)
     }
 }

@@ -60,12 +60,6 @@ head_read : (d : Dictionary) (bs : List ℕ) (b : ℕ) (h : Option ℕ) → b < 
 head_read d bs b h lt is read =
     read ∙ get_or_default (vec_items d.heads) b h None (omega (arith, d.heads.ok.0)) ∙ d.headed b lt ∙ ap (λ k. latest (vec_len d.heads) k (texts_in d)) is
 
-pub extend_reserved-requires : goal.extend_reserved-requires
-extend_reserved-requires c =
-    let d = c.args.self.now in
-    let f = fit_parts d c.args.bytes.now c.requires.fits in
-    omega (arith, f.bytes, d.whole, d.reserved)
-
 pub push_reserved-requires : goal.push_reserved-requires
 push_reserved-requires c =
     let d = c.args.self.now in

@@ -37,16 +37,13 @@ module _ (d : Dictionary) (bs : List ℕ) (i : ℕ) (at : Option ℕ) (e : at �
   linked_to : (s : Slot) → s ≡ get_or (vec_items d.slots) i s → s.next ≡ latest (vec_len d.heads) (bucket_of (vec_len d.heads) (get_or (texts_in d) i [])) (take i (texts_in d))
   linked_to s read = let lt : i < length (vec_items d.slots) = omega (arith, within, d.slots.ok.0) in ap (λ (r : Slot). r.next) read ∙ d.linked i s lt
 
-pub entry_bytes-requires : goal.entry_bytes-requires
-entry_bytes-requires c = within c.args.self.now c.args.bytes.now c.in-Some.i c.loop-at.at c.in-Some.is c.loop-at.invariant
-
 pub index-requires : goal.index-requires
 index-requires c = within c.args.self.now c.args.bytes.now c.in-Some.i c.loop-at.at c.in-Some.is c.loop-at.invariant
 
 pub returns-then-eq : goal.returns-then-eq
 returns-then-eq c =
     walk_found _ _ _ c.in-Some.i (stands c.args.self.now c.args.bytes.now c.in-Some.i c.loop-at.at c.in-Some.is c.loop-at.invariant)
-    (sym c.entry_bytes.ensures ∙ (slice_eq-Decides Decides-eqb _ _ _ c.eq.ensures).0 c.if-eq.true)
+    (sym c.text_at.ensures ∙ (slice_eq-Decides Decides-eqb _ _ _ c.eq.ensures).0 c.if-eq.true)
 
 pub loop-at-smaller : goal.loop-at-smaller
 loop-at-smaller c =
@@ -57,7 +54,7 @@ loop-at-smaller c =
 pub loop-at-preserved : goal.loop-at-preserved
 loop-at-preserved c =
     let d = c.args.self.now in
-    let other : (get_or (texts_in d) c.in-Some.i [] ≡ c.args.bytes.now → ⊥) = λ same. both_ways _ c.if-eq.false ((slice_eq-Decides Decides-eqb _ _ _ c.eq.ensures).1 (c.entry_bytes.ensures ∙ same)) in
+    let other : (get_or (texts_in d) c.in-Some.i [] ≡ c.args.bytes.now → ⊥) = λ same. both_ways _ c.if-eq.false ((slice_eq-Decides Decides-eqb _ _ _ c.eq.ensures).1 (c.text_at.ensures ∙ same)) in
     walk_on _ _ _ c.in-Some.i _ (stands d c.args.bytes.now c.in-Some.i c.loop-at.at c.in-Some.is c.loop-at.invariant)
     (differ _ _ other)
     (linked_to d c.args.bytes.now c.in-Some.i c.loop-at.at c.in-Some.is c.loop-at.invariant c.index.result.now c.index.ensures)

@@ -1,5 +1,7 @@
-use Rattle.vec_map.proofs.Tests.{place-by}
+use Rattle.std.proofs.Common.{arith}
+use Rattle.std.proofs.lemmas.Grind.{common_steps}
+use Rattle.vec_map.proofs.Tests.{last_from_places}
 use Rattle.vec_map.proofs.scans.last_place.Goals as goal
 
 pub returns : goal.returns
-returns g c = place-by (g.S.Sameness.alike c.args.by.now) c.args.entries.now c.args.key.now c.last_fitting.result c.last_fitting.ensures
+returns g c = last_from_places (λ q. g.S.Sameness.alike c.args.by.now q c.args.key.now) c.args.entries.now c.rposition.result (grind (arith, common_steps))

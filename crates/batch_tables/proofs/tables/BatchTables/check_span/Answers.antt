@@ -1,42 +1,25 @@
-use Rattle.std.proofs.Common.{◌≡◌, ◌<◌, length, vec_items, vec_len, sym, ◌∙◌, arith}
+use Rattle.std.proofs.Common.{◌<◌, length, ap, ◌∙◌, arith}
 use Rattle.batch_tables.specs.Batches.{all_spans}
-use Rattle.batch_tables.specs.Flat.{spans_of}
-use Rattle.batch_tables.specs.Held.{held}
-use Rattle.batch_tables.proofs.Checked.{go_sound, stop_empty, go_some, stop_full, go_in_room, made_so, all_spans-long}
-use Rattle.batch_tables.proofs.Missing.{length-chunks}
+use Rattle.batch_tables.proofs.Checked.{go_some, stop_full, go_in_room, made_so}
+use Rattle.batch_tables.proofs.Holding.{chunks-held, spans-held}
 use Rattle.batch_tables.proofs.tables.BatchTables.check_span.Goals as goal
 
-pub returns-then-len-eq0 : goal.returns-then-len-eq0
-returns-then-len-eq0 g c =
-    let b = c.args.self.now in
-    let h = held g.E.Edition.table b in
-    let long : length h.batch ≡ length (vec_items b.chunks) = length-chunks (vec_items b.chunks) (g.E.Edition.table b.maps).chunks (spans_of (vec_items b.spans) (g.E.Edition.table b.maps).spans) in
-    record { free = tt; comes = go_sound _ h.sound (sym c.if-not-is_sound.ensures) ∙ stop_empty _ h.batch (omega (arith, long, b.chunks.ok.0, c.len.ensures)) }
+pub returns-then-len-self-clause-comes : goal.returns-then-len-self-clause-comes
+returns-then-len-self-clause-comes g c =
+    let h = c.args.self.now in
+    let some : 0 < length h.batch = omega (arith, ap (λ x. length x.batch) c.self.view_is, chunks-held c.self.invariant, c.self.inside.chunks.ok.0, c.len.ensures, c.if-len-eq0.false) in
+    go_some _ h.batch some ∙ stop_full _ _ (length (all_spans h.batch)) h.room.spans (omega (arith, ap (λ x. length (all_spans x.batch)) c.self.view_is, ap (λ x. x.room.spans) c.self.view_is, spans-held c.self.invariant, c.self.inside.spans.ok.0, c.len-2.ensures, c.if-len-self.true))
 
-pub returns-then-len-self : goal.returns-then-len-self
-returns-then-len-self g c =
-    let b = c.args.self.now in
-    let h = held g.E.Edition.table b in
-    let long : length h.batch ≡ length (vec_items b.chunks) = length-chunks (vec_items b.chunks) (g.E.Edition.table b.maps).chunks (spans_of (vec_items b.spans) (g.E.Edition.table b.maps).spans) in
-    let all : length (all_spans h.batch) ≡ length (vec_items b.spans) = all_spans-long (vec_items b.chunks) (g.E.Edition.table b.maps).chunks (vec_items b.spans) (g.E.Edition.table b.maps).spans (b.adds ∙ b.spans.ok.0) in
-    let some : 0 < length h.batch = omega (arith, long, b.chunks.ok.0, c.len.ensures, c.if-len-eq0.false) in
-    record {
-      free = tt;
-      comes = go_sound _ h.sound (sym c.if-not-is_sound.ensures) ∙ go_some _ h.batch some ∙ stop_full _ _ (length (all_spans h.batch)) h.room.spans (omega (arith, all, b.spans.ok.0, c.len-2.ensures));
-    }
+pub returns-clause-free : goal.returns-clause-free
+returns-clause-free g c =
+    let h = c.args.self.now in
+    let some : 0 < length h.batch = omega (arith, ap (λ x. length x.batch) c.self.view_is, chunks-held c.self.invariant, c.self.inside.chunks.ok.0, c.len.ensures, c.if-len-eq0.false) in
+    let free : length (all_spans h.batch) < h.room.spans = omega (arith, ap (λ x. length (all_spans x.batch)) c.self.view_is, ap (λ x. x.room.spans) c.self.view_is, spans-held c.self.invariant, c.self.inside.spans.ok.0, c.len-2.ensures, c.if-len-self.false) in
+    made_so c.carried.result (some, free)
 
-pub returns : goal.returns
-returns g c =
-    let b = c.args.self.now in
-    let h = held g.E.Edition.table b in
-    let sound = sym c.if-not-is_sound.ensures in
-    let long : length h.batch ≡ length (vec_items b.chunks) = length-chunks (vec_items b.chunks) (g.E.Edition.table b.maps).chunks (spans_of (vec_items b.spans) (g.E.Edition.table b.maps).spans) in
-    let all : length (all_spans h.batch) ≡ length (vec_items b.spans) = all_spans-long (vec_items b.chunks) (g.E.Edition.table b.maps).chunks (vec_items b.spans) (g.E.Edition.table b.maps).spans (b.adds ∙ b.spans.ok.0) in
-    let some : 0 < length h.batch = omega (arith, long, b.chunks.ok.0, c.len.ensures, c.if-len-eq0.false) in
-    let any : 0 < vec_len b.chunks = omega (arith, c.len.ensures, c.if-len-eq0.false) in
-    let free : vec_len b.spans < b.room.spans = omega (arith, c.len-2.ensures, c.if-len-self.false) in
-    record {
-      free = made_so c.carried.result (sound, any, free);
-      comes =
-          go_sound _ h.sound sound ∙ go_some _ h.batch some ∙ go_in_room _ _ (length (all_spans h.batch)) h.room.spans c.check_span.result c.carried.result (omega (arith, all, b.spans.ok.0)) c.check_span.ensures c.carried.ensures;
-    }
+pub returns-clause-comes : goal.returns-clause-comes
+returns-clause-comes g c =
+    let h = c.args.self.now in
+    let some : 0 < length h.batch = omega (arith, ap (λ x. length x.batch) c.self.view_is, chunks-held c.self.invariant, c.self.inside.chunks.ok.0, c.len.ensures, c.if-len-eq0.false) in
+    let free : length (all_spans h.batch) < h.room.spans = omega (arith, ap (λ x. length (all_spans x.batch)) c.self.view_is, ap (λ x. x.room.spans) c.self.view_is, spans-held c.self.invariant, c.self.inside.spans.ok.0, c.len-2.ensures, c.if-len-self.false) in
+    go_some _ h.batch some ∙ go_in_room _ _ (length (all_spans h.batch)) h.room.spans c.check_span.result c.carried.result free c.check_span.ensures c.carried.ensures

@@ -1,9 +1,7 @@
-use Rattle.std.proofs.Common.{vec_items, sym, ◌∙◌}
-use Rattle.batch_tables.proofs.Checked.{all_spans-long}
+use Rattle.std.proofs.Common.{length, sym, ap, ◌∙◌}
+use Rattle.batch_tables.specs.Batches.{all_spans}
+use Rattle.batch_tables.proofs.Holding.{spans-held}
 use Rattle.batch_tables.proofs.tables.BatchTables.span_rows.Goals as goal
 
-pub returns : goal.returns
-returns g c =
-    let b = c.args.self.now in
-    let T = g.E.Edition.table b.maps in
-    c.len.ensures ∙ b.spans.ok.0 ∙ sym (all_spans-long (vec_items b.chunks) T.chunks (vec_items b.spans) T.spans (b.adds ∙ b.spans.ok.0))
+pub returns-clause-count : goal.returns-clause-count
+returns-clause-count g c = c.len.ensures ∙ c.self.inside.spans.ok.0 ∙ sym (spans-held c.self.invariant) ∙ ap (λ h. length (all_spans h.batch)) c.self.view_is

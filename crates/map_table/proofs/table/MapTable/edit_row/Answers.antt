@@ -1,4 +1,4 @@
-use Rattle.std.proofs.Common.{◌≡◌, ◌+◌, ◌-◌, ◌<◌, ◌≤◌, length, take, drop, set, vec_items, vec_len, sym, refl, ap, subst, arith}
+use Rattle.std.proofs.Common.{rules, get_or, Err, ◌∙◌, ◌≡◌, ◌+◌, ◌-◌, ◌<◌, ◌≤◌, length, take, drop, set, vec_items, vec_len, sym, refl, ap, subst, arith}
 use Rattle.std.proofs.lemmas.List.{length-take, length-drop}
 use Rattle.texts.specs.Outcomes.{leaves, answers, at_place, Came}
 use Rattle.vec_map.specs.declared.fault.MapFault.TheVariants.{NoPlace}
@@ -10,12 +10,14 @@ use Rattle.map_table.proofs.RowEdits.{row_missing, row_edited, outside_same, out
 use Rattle.map_table.proofs.Stretches.{stretch_lent, lent_stretch}
 use Rattle.map_table.proofs.table.MapTable.edit_row.Goals as goal
 
-pub returns-then-row-len : goal.returns-then-row-len
-returns-then-row-len g c =
+pub returns-in_err-kept : goal.returns-in_err-kept
+returns-in_err-kept g c =
     let t = c.args.self.now in
-    let none = row_missing _ t.stride (vec_items t.entries) (vec_items t.rows) c.args.row _ (omega (arith, t.rows.ok.0, c.len.ensures)) in
+    let out : length (vec_items t.rows) ≤ c.args.row = search rules in
+    let none = row_missing NoPlace t.stride (vec_items t.entries) (vec_items t.rows) c.args.row (edit_on (g.S.Sameness.alike c.args.by.now) t.stride c.args.edit) out in
+    let told : c.from_residual.result ≡ Err NoPlace = search rules in
     record {
-      came = record { told = ap answers (sym none); left = ap (leaves _) (sym none) };
+      came = record { told = told ∙ ap answers (sym none); left = ap (leaves _) (sym none) };
       outside = outside_same _ _ _;
       shape = record { stride = refl; room = refl };
     }
@@ -49,13 +51,15 @@ returns g c =
     let low : c.edit_places-told.result.0.len ≤ stride = omega (arith, c.edit_places-told.ensures.fits, length-take (start + stride - start) (drop start lent)) in
     let fits : start + stride ≤ length es = omega (arith, c.start_of-start.ensures.within, t.entries.ok.0) in
     let long : length zs ≡ stride = omega (arith, c.edit_places-told.auto.places, length-take (start + stride - start) (drop start lent), length-drop start lent, ap length is) in
-    let there : row < length rs = omega (arith, c.len.ensures, c.if-row-len.false, t.rows.ok.0) in
+    let there : row < length rs = search rules in
+    let kept = c.in_ok-kept.field-0.now in
+    let read : kept ≡ get_or rs row kept = search rules in
     let put = stretch_lent es zs lent _ start stride (vec_len t.entries) is t.entries.ok.0 c.start_of-start.ensures.within long in
     record {
       came =
           subst (λ xs. Came (at_place NoPlace (edit_on (g.S.Sameness.alike c.args.by.now) stride c.args.edit) (maps_of t) row) (maps_of t) (maps_in stride xs (set rs row c.edit_places-told.result.0)) c.edit_places-told.result.1) (sym put)
-          (row_edited _ stride es rs row start (λ n. edit_on (g.S.Sameness.alike c.args.by.now) n c.args.edit) c.index-kept.result.now c.edit_places-told.result.0 (take (start + stride - start) (drop start lent)) zs _
-          c.start_of-start.ensures.start fits there t.fit c.index-kept.ensures (lent_stretch es lent start stride is) low long c.edit_places-told.ensures.told c.edit_places-told.ensures.left);
+          (row_edited _ stride es rs row start (λ n. edit_on (g.S.Sameness.alike c.args.by.now) n c.args.edit) kept c.edit_places-told.result.0 (take (start + stride - start) (drop start lent)) zs _
+          c.start_of-start.ensures.start fits there t.fit read (lent_stretch es lent start stride is) low long c.edit_places-told.ensures.told c.edit_places-told.ensures.left);
       outside = subst (OutsideStays stride row es) (sym put) (outside_stretch stride row start es zs c.start_of-start.ensures.start fits long);
       shape = record { stride = refl; room = refl };
     }

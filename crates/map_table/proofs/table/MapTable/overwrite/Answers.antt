@@ -12,11 +12,11 @@ invariant_of-self g c =
     let t = c.args.self.now in
     let rs = vec_items t.rows in
     let there : c.args.from < length rs = omega (arith, t.rows.ok.0, c.requires.source) in
-    let low = fits_read t.stride rs c.args.from c.index-kept.result.now c.index-kept.ensures there t.fit in record {
+    let low = fits_read t.stride rs c.args.from c.index.result.now c.index.ensures there t.fit in record {
       some = t.some;
       few = t.few;
       whole = c.copy_within.ensures.len ∙ t.whole;
-      fit = fits_set t.stride rs c.args.to c.index-kept.result.now low t.fit;
+      fit = fits_set t.stride rs c.args.to c.index.result.now low t.fit;
       within = t.within;
       reserved = t.reserved;
       places = omega (arith, t.places, c.copy_within.ensures.capacity);
@@ -28,7 +28,7 @@ returns g c =
     let stride = t.stride in
     let es = vec_items t.entries in
     let rs = vec_items t.rows in
-    let kept = c.index-kept.result.now in
+    let kept = c.index.result.now in
     let source = c.start_of-source.result in
     let target = c.start_of-target.result in
     let zs = take stride (drop source es) in
@@ -40,8 +40,8 @@ returns g c =
     record {
       maps =
           ap (λ xs. maps_in stride xs (set rs c.args.to kept)) copied
-          ∙ maps-set stride es zs rs c.args.to target kept c.start_of-target.ensures.start fits t.fit (fits_read stride rs c.args.from kept c.index-kept.ensures there t.fit) long
-          ∙ ap (set (maps_of t) c.args.to) (sym (row_at stride es rs c.args.from source c.start_of-source.ensures.start inside there t.fit kept c.index-kept.ensures blank));
+          ∙ maps-set stride es zs rs c.args.to target kept c.start_of-target.ensures.start fits t.fit (fits_read stride rs c.args.from kept c.index.ensures there t.fit) long
+          ∙ ap (set (maps_of t) c.args.to) (sym (row_at stride es rs c.args.from source c.start_of-source.ensures.start inside there t.fit kept c.index.ensures blank));
       outside = subst (OutsideStays stride c.args.to es) (sym copied) (outside_stretch stride c.args.to target es zs c.start_of-target.ensures.start fits long);
       shape = record { stride = refl; room = refl };
     }

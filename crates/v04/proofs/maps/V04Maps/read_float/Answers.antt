@@ -6,5 +6,6 @@ use Rattle.v04.proofs.maps.V04Maps.read_float.Goals as goal
 
 pub returns : goal.returns
 returns g c =
-    let m = c.args.self.now in
-    c.read_row.ensures ∙ ap (λ o. read_in (g.S.Stock.meaning c.args.stock.now) o c.args.key.now) (sym (second_at (maps_of m.meta) (maps_of m.metrics) c.args.row m.paired))
+    let m = c.self.inside in
+    rw (← c.self.view_is)
+    (c.read_row.ensures ∙ ap (λ o. read_in (g.S.Stock.meaning c.args.stock.now) o c.args.key.now) (sym (second_at (maps_of m.meta) (maps_of m.metrics) c.args.row c.self.invariant.paired)))

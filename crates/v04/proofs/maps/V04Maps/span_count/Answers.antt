@@ -5,5 +5,5 @@ use Rattle.v04.proofs.maps.V04Maps.span_count.Goals as goal
 
 pub returns : goal.returns
 returns c =
-    let m = c.args.self.now in
-    c.rows.ensures ∙ sym (length-beside (maps_of m.meta) (maps_of m.metrics) m.paired)
+    let m = c.self.inside in
+    rw (← c.self.view_is) (c.rows.ensures ∙ sym (length-beside (maps_of m.meta) (maps_of m.metrics) c.self.invariant.paired))

@@ -7,18 +7,18 @@ use Rattle.v04.proofs.maps.V04Maps.span_entry.Goals as goal
 
 pub returns-in-0 : goal.returns-in-0
 returns-in-0 c =
-    let m = c.args.self.now in
+    let m = c.self.inside in
     let is : c.args.which ≡ 0 = omega arith in
-    c.row_entry.ensures ∙ ap (λ o. option_flatten (option_map (λ n. entry_at n.entries c.args.i) o)) (sym (map-0 (maps_of m.meta) (maps_of m.metrics) c.args.row c.args.which m.paired is))
+    rw (← c.self.view_is) (c.row_entry.ensures ∙ ap (λ o. option_flatten (option_map (λ n. entry_at n.entries c.args.i) o)) (sym (map-0 (maps_of m.meta) (maps_of m.metrics) c.args.row c.args.which c.self.invariant.paired is)))
 
 pub returns-in-1 : goal.returns-in-1
 returns-in-1 c =
-    let m = c.args.self.now in
+    let m = c.self.inside in
     let is : c.args.which ≡ 1 = omega arith in
-    c.row_entry-in-1.ensures ∙ ap (λ o. option_flatten (option_map (λ n. entry_at n.entries c.args.i) o)) (sym (map-1 (maps_of m.meta) (maps_of m.metrics) c.args.row c.args.which m.paired is))
+    rw (← c.self.view_is) (c.row_entry-in-1.ensures ∙ ap (λ o. option_flatten (option_map (λ n. entry_at n.entries c.args.i) o)) (sym (map-1 (maps_of m.meta) (maps_of m.metrics) c.args.row c.args.which c.self.invariant.paired is)))
 
 pub returns-in_default : goal.returns-in_default
 returns-in_default c =
-    let m = c.args.self.now in
+    let m = c.self.inside in
     let is : 2 ≤ c.args.which = omega arith in
-    ap (λ o. option_flatten (option_map (λ n. entry_at n.entries c.args.i) o)) (sym (map-2 (maps_of m.meta) (maps_of m.metrics) c.args.row c.args.which is))
+    rw (← c.self.view_is) (ap (λ o. option_flatten (option_map (λ n. entry_at n.entries c.args.i) o)) (sym (map-2 (maps_of m.meta) (maps_of m.metrics) c.args.row c.args.which is)))
