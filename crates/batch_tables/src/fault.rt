@@ -27,7 +27,22 @@ pub enum BatchFault {
     Map(usize, MapFault),
 }
 
-// By hand, since its contract names the case.
+// What a map refused, with the place of the span or chunk that has it.
+#[derive(Clone, Copy, Debug)]
+pub struct OwnedFault {
+    pub place: usize,
+    pub fault: MapFault,
+}
+
+// By hand, as the next, since its contract names the case.
+impl From<OwnedFault> for BatchFault {
+    ghost from_gives = { λ e r. r ≡ owned_by e.place e.fault };
+
+    fn from(owned: OwnedFault) -> BatchFault {
+        BatchFault::Map(owned.place, owned.fault)
+    }
+}
+
 impl From<StockFault> for BatchFault {
     ghost from_gives = { λ e r. r ≡ carried e };
 

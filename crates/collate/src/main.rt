@@ -34,28 +34,33 @@ fn main(rt: HostRuntime) -> anyhow::Result<()> {
     }
 }
 
-// The first line that asks for something, or an empty one at the end.
+// The first line that asks for something, or an empty one at the end. Titles are printed on the way.
 fn first_action<'a>(rt: &HostRuntime, lines: &mut Lines<'a>) -> anyhow::Result<Line<'a>> {
     for line in lines.by_ref() {
-        if asks(rt, line.text)? {
+        if is_title(line.text) {
+            print_line(rt, line.text)?;
+        } else if asks(line.text) {
             return Ok(line);
         }
     }
     Ok(lines.end())
 }
 
-// Whether a line asks for something. A title does not, and is printed.
-fn asks(rt: &HostRuntime, line: &[u8]) -> anyhow::Result<bool> {
-    match line {
-        [b'#', b'#', ..] => {
-            let mut out = rt.stdout();
-            out.write_all(line)?;
-            out.write_all(b"\n")?;
-            Ok(false)
-        }
-        [] | [b'#', ..] => Ok(false),
-        _ => Ok(true),
-    }
+// Whether a line is to be printed as it stands.
+fn is_title(line: &[u8]) -> bool {
+    matches!(line, [b'#', b'#', ..])
+}
+
+// Whether a line asks for something: it has words, and is no remark.
+fn asks(line: &[u8]) -> bool {
+    !matches!(line, [] | [b'#', ..])
+}
+
+fn print_line(rt: &HostRuntime, line: &[u8]) -> anyhow::Result<()> {
+    let mut out = rt.stdout();
+    out.write_all(line)?;
+    out.write_all(b"\n")?;
+    Ok(())
 }
 
 // Answers each line, where there is a stock, and prints the map at the end.
@@ -80,7 +85,9 @@ fn keep<S: Stock + Drop>(
         bail!("no memory for a map");
     };
     for line in lines {
-        if asks(rt, line.text)? {
+        if is_title(line.text) {
+            print_line(rt, line.text)?;
+        } else if asks(line.text) {
             out.clear();
             answer(heap, &mut keeper, &mut out, line)?;
             rt.stdout().write_all(&out)?;

@@ -2,7 +2,7 @@
 use Rattle.std.proofs.Common.{◌≡◌, ℕ, zero, suc, ◌+◌, ◌-◌, ◌*◌, ◌^◌, ◌<◌, Bool, true, false, ltb, pos, ◌*ℤ◌, neg_ℤ, sym, refl, ap, ◌∙◌, inl, inr, lt_of_lt_of_le, le_of_lt, mul-le-mul_right, zero-lt-suc, mul-lt-mul_of_pos_right, mul-pos, zero-mul, arith, lit≤, shl_lt}
 use native.Mathlib.Nat.{mul-sub}
 use lib.IntN.{pos-*ℤ-pos, negsuc-*ℤ-pos}
-use lib.Ieee.{Float, nan, inf, fin, Format, binary64, up, down, round, sum, add, of_int}
+use lib.Ieee.{Float, nan, inf, fin, Format, binary64, unlike, up, down, round, sum, add, mul, of_int}
 use lib.Ieee.Exact.{HasValue, round_exact}
 use lib.Ieee.Scale.{round_same}
 use lib.Ieee.Fits.{down_pos}
@@ -20,6 +20,19 @@ pub to_integer : (x : Float) (s : Bool) (k : ℕ) → HasValue x s k 1 → Exact
 to_integer nan s k h = elim h [ ]
 to_integer (inf _) s k h = elim h [ ]
 to_integer (fin t m e) s k (p, q) = rw (signed-times, p) (ap (signed s) (omega arith))
+
+-- A positive factor leaves every sign as it is.
+unlike_plus : (t : Bool) → unlike t false ≡ t
+unlike_plus false = refl
+unlike_plus true = refl
+
+-- A float that is a whole number, times 2 ^ k: the product of the two numbers, rounded.
+pub times_power : (f : Format) (x : Float) (s : Bool) (a k : ℕ) → HasValue x s a 1 → mul f x (fin false 1 (pos k)) ≡ round f s (a * 2 ^ k) 1
+unfolding mul
+times_power f nan s a k h = elim h [ ]
+times_power f (inf _) s a k h = elim h [ ]
+times_power f (fin t m e) s a k (p, q) =
+    rw (unlike_plus, p) (round_same f s (m * up e * (1 * 2 ^ k)) (down e * 1) (a * 2 ^ k) 1 (mul-pos (down_pos e) (zero-lt-suc 0)) (zero-lt-suc 0) (omega (arith, ap (λ (z : ℕ). z * 2 ^ k) q)))
 
 -- A common factor changes no comparison.
 ltb_factor : (a b c : ℕ) → 0 < c → ltb (a * c) (b * c) ≡ ltb a b

@@ -51,6 +51,15 @@ decimal_counts = decimal_by_steps (Counts 10)
     (λ n lt. counts_push 10 0 [] n (48 + n) n (counts_none 10) (digit_ten n lt) (omega arith) (omega arith))
     (λ n ds big front. counts_push 10 (n / 10) ds n (48 + n % 10) (n % 10) front (digit_ten (n % 10) (mod_below n 10 (omega arith))) (omega arith) (div-add-mod' n 10))
 
+pub hexes-none : (places n : ℕ) → places ≡ 0 → hexes places n ≡ []
+unfolding hexes
+hexes-none places n none = ap (λ k. hexes k n) none
+
+pub hexes-more : (places n : ℕ) → (places ≡ 0 → ⊥) → hexes places n ≡ hexes (places - 1) (n / 16) ++ digit_char (n % 16) ∷ []
+unfolding hexes
+hexes-more zero n some = absurd (some refl)
+hexes-more (suc places) n some = let e : places ≡ suc places - 1 = omega arith in ap (λ k. hexes k (n / 16) ++ digit_char (n % 16) ∷ []) e
+
 pub hexes-count : (places n : ℕ) → n < 16 ^ places → Counts 16 n (hexes places n)
 unfolding hexes
 hexes-count zero n lt = let e : 0 ≡ n = omega arith in subst (λ m. Counts 16 m []) e (counts_none 16)

@@ -1,13 +1,14 @@
 // Numbers as words: unsigned and signed numbers in decimal digits, a float's 64 bits in hexadecimal ones, and flags. Each
 // writer says of its own word what it appends.
 ghost use Rattle.std.specs.Prelude.{◌≡◌, ◌+◌, ◌-◌, ◌*◌, ◌^◌, ◌<◌, true, ◌++◌, is_ok, if◌then◌else◌, Some, None, decimal, nat_le};
+ghost use Rattle.std.specs.Char.{digit_char};
 ghost use Rattle.std.specs.Fmt.{signed_decimal};
+ghost use Rattle.session.specs.Buffers.{Grown};
 ghost use Rattle.session.specs.Lines.{unspaced};
-ghost use Rattle.session.specs.Numerals.{digit_of, number_of, unsigned_of, signed_of, float_word, float_of, flag_word, flag_of};
+ghost use Rattle.session.specs.Numerals.{digit_of, number_of, unsigned_of, signed_of, hexes, float_word, float_of, flag_word, flag_of};
 
 use crate::word::append;
 use std::alloc::AllocError;
-use std::fmt;
 
 // What a byte counts as a digit of the base.
 fn digit(byte: u8, base: u64) -> Option<u64>
@@ -88,20 +89,6 @@ pub fn read_flag(word: &[u8]) -> Option<bool>
     }
 }
 
-// A float to be printed as a word: an `x` and the sixteen hexadecimal digits of its bits.
-#[derive(Drop)]
-struct FloatWord(u64);
-
-impl fmt::Display for FloatWord {
-    ghost output = { λ float. Some (float_word float.0) };
-
-    #[tactic(auto, using(crate::proofs::Hexes::hexes_padded))]
-    fn fmt<W: fmt::Write>(&self, f: &mut fmt::Formatter<W>) -> fmt::Result {
-        let bits = self.0;
-        write!(f, "x{bits:016x}")
-    }
-}
-
 // Appends an unsigned number. Its word reads back as the number.
 #[tactic(auto, using(crate::proofs::Writing::written))]
 pub fn write_unsigned(out: &mut Vec<u8>, number: u64) -> Result<(), AllocError>
@@ -122,14 +109,52 @@ pub fn write_signed(out: &mut Vec<u8>, number: i64) -> Result<(), AllocError>
     append::<i64>(out, number)
 }
 
+// The byte that writes a hexadecimal digit.
+fn hex_digit(worth: u8) -> u8
+    requires { worth < 16 }
+    ensures { result ≡ digit_char worth }
+{
+    if worth < 10 {
+        b'0' + worth
+    } else {
+        b'a' + (worth - 10)
+    }
+}
+
+// Appends the last places of a number in hexadecimal digits, or a part of them.
+pub(crate) fn push_hexes(out: &mut Vec<u8>, places: u8, number: u64) -> Result<(), AllocError>
+    ensures { Grown result out.old.items (hexes places number) out.new.items }
+{
+    if places == 0 {
+        return Ok(());
+    }
+    push_hexes(out, places - 1, number / 16)?;
+    out.push(hex_digit((number % 16) as u8))?;
+    Ok(())
+}
+
+// Appends a float's word, or a part of it. Into the buffer itself, which asks for no memory where there is room.
+fn push_float(out: &mut Vec<u8>, bits: u64) -> Result<(), AllocError>
+    ensures grown { Grown result out.old.items (float_word bits) out.new.items }
+    ensures reads_back { float_of (float_word bits) ≡ Some bits }
+    ensures whole { unspaced (float_word bits) ≡ true }
+{
+    out.push(b'x')?;
+    push_hexes(out, 16, bits)
+}
+
 // Appends a float's bits. Their word reads back as the bits.
-#[tactic(auto, using(crate::proofs::Writing::written))]
 pub fn write_float(out: &mut Vec<u8>, bits: u64) -> Result<(), AllocError>
     ensures items { out.new.items ≡ (if is_ok result then out.old.items ++ float_word bits else out.old.items) }
     ensures reads_back { float_of (float_word bits) ≡ Some bits }
     ensures whole { unspaced (float_word bits) ≡ true }
 {
-    append(out, FloatWord(bits))
+    let start = out.len();
+    let written = push_float(out, bits);
+    if written.is_err() {
+        out.truncate(start);
+    }
+    written
 }
 
 // Appends a flag. Its word reads back as the flag.

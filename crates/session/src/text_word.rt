@@ -1,13 +1,14 @@
 // Texts as words: a quote, and then the text's bytes, in hexadecimal where they are not visible or are a percent sign.
 ghost use Rattle.std.specs.Prelude.{◌≡◌, ◌<◌, true, ◌++◌, length, is_ok, if◌then◌else◌, Some, None, vec_items, MatchOption};
+ghost use Rattle.std.specs.List.{flat_map};
 ghost use Rattle.std.specs.Option.{option_map};
+ghost use Rattle.session.specs.Buffers.{Grown};
 ghost use Rattle.session.specs.Faults.{Reads};
 ghost use Rattle.session.specs.Lines.{unspaced};
 ghost use Rattle.session.specs.Texts.{plain, spelt_byte, spelt, unspelt, text_of, SpellsFirst};
 
 use crate::fault::WordFault;
-use crate::number_word::read_digits;
-use crate::word::append;
+use crate::number_word::{push_hexes, read_digits};
 use std::alloc::{AllocError, Global};
 use std::fmt;
 
@@ -103,12 +104,49 @@ impl fmt::Display for TextWord<'_> {
     }
 }
 
+// Appends what one byte of a text is written as, or a part of it.
+fn push_byte(out: &mut Vec<u8>, byte: u8) -> Result<(), AllocError>
+    ensures { Grown result out.old.items (spelt_byte byte) out.new.items }
+{
+    if is_plain(byte) {
+        out.push(byte)?;
+        return Ok(());
+    }
+    out.push(b'%')?;
+    push_hexes(out, 2, u64::from(byte))
+}
+
+// Appends what the bytes of a text are written as, or a part of it.
+fn push_bytes(out: &mut Vec<u8>, text: &[u8]) -> Result<(), AllocError>
+    ensures { Grown result out.old.items (flat_map spelt_byte text.now) out.new.items }
+{
+    for byte in text {
+        push_byte(out, *byte)?;
+    }
+    Ok(())
+}
+
+// Appends a text's word, or a part of it. Into the buffer itself: printed first, as a `TextWord`, it would ask for memory
+// where there is room, and take several times as long.
+fn push_text(out: &mut Vec<u8>, text: &[u8]) -> Result<(), AllocError>
+    ensures grown { Grown result out.old.items (spelt text.now) out.new.items }
+    ensures reads_back { text_of (spelt text.now) ≡ Some text.now }
+    ensures whole { unspaced (spelt text.now) ≡ true }
+{
+    out.push(b'\'')?;
+    push_bytes(out, text)
+}
+
 // Appends a text. Its word reads back as the text.
-#[tactic(auto, using(crate::proofs::Texts::text_reads, crate::proofs::Texts::text_visible))]
 pub fn write_text(out: &mut Vec<u8>, text: &[u8]) -> Result<(), AllocError>
     ensures items { out.new.items ≡ (if is_ok result then out.old.items ++ spelt text.now else out.old.items) }
     ensures reads_back { text_of (spelt text.now) ≡ Some text.now }
     ensures whole { unspaced (spelt text.now) ≡ true }
 {
-    append(out, TextWord(text))
+    let start = out.len();
+    let written = push_text(out, text);
+    if written.is_err() {
+        out.truncate(start);
+    }
+    written
 }

@@ -9,7 +9,7 @@ ghost use Rattle.batch_tables.specs.Batches.{told_as, after, edit_texts, edit_ba
 ghost use Rattle.batch_tables.specs.Flags.{Works};
 ghost use Rattle.batch_tables.specs.Held.{Stands};
 
-use crate::fault::BatchFault;
+use crate::fault::{BatchFault, OwnedFault};
 use crate::tables::BatchTables;
 use map_table::table::Edit;
 use span::checks::check_all;
@@ -50,7 +50,7 @@ fn edit_known<E: Edition, S: Stock>(
 fn owned(place: usize, told: Result<(), MapFault>) -> Result<(), BatchFault>
     ensures { result ≡ retold (owned_by place) told }
 {
-    told.map_err(|fault| BatchFault::Map(place, fault))
+    Ok(told.map_err(|fault| OwnedFault { place, fault })?)
 }
 
 impl<E: Edition> BatchTables<E> {
