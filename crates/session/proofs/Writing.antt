@@ -115,4 +115,4 @@ float_visible n fits = (hexes-count 16 n fits).visible
 pub decimal_visible : (n : ℕ) → n < 2 ^ 64 → unspaced (decimal n) ≡ true
 decimal_visible n fits = (decimal_counts n fits).visible
 
-pub ruleset written = (decimal_reads, decimal_visible, signed_reads, signed_visible, float_reads, float_visible)
+pub ruleset written = (decimal_reads, decimal_visible, signed_reads, signed_visible)

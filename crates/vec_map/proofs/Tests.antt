@@ -1,5 +1,5 @@
 -- Walks over entries that look for the keys that pass a test.
-use Rattle.std.proofs.Common.{◌≡◌, ℕ, ◌+◌, ◌<◌, Bool, true, false, List, [], ◌∷◌, reverse, length, get_or, drop, find, All, HoldsAt, Option, Some, None, is_some, MatchOption, refl, ap, ◌∙◌, arith}
+use Rattle.std.proofs.Common.{◌≡◌, ℕ, zero, suc, ◌+◌, ◌<◌, Bool, true, false, ◌||◌, List, [], ◌∷◌, reverse, length, get_or, drop, find, All, HoldsAt, Option, Some, None, is_some, MatchOption, sym, refl, ap, ◌∙◌, arith}
 use Rattle.std.specs.Option.{option_map}
 use Rattle.std.proofs.lemmas.Bool.{cases_Bool}
 use Rattle.std.proofs.lemmas.List.{get_or-drop, length-drop, reverse-append}
@@ -28,3 +28,19 @@ module _ {K V : Type 0} (test : K → Bool) where
   pub read_back : (es : List (Entry K V)) → read_by test es ≡ option_map (λ e. e.value) (find (λ e. test e.key) (reverse es))
   read_back [] = refl
   read_back (e ∷ es) = grind (arith, read_back es, read_some es, reverse-append (e ∷ []) es, find-append (λ e. test e.key) (reverse es) (e ∷ []), cases_Bool (holds_by test es), cases_Bool (test e.key))
+
+  held_at : (es : List (Entry K V)) (i : ℕ) (d : Entry K V) → i < length es → test (get_or es i d).key ≡ true → holds_by test es ≡ true
+  held_at [] i d lt h = absurd (omega arith)
+  held_at (e ∷ es) zero d lt h = ap (λ b. b || holds_by test es) h
+  held_at (e ∷ es) (suc i) d lt h = grind (arith, held_at es i d (omega arith) h, cases_Bool (test e.key))
+
+  read-at : (es : List (Entry K V)) (i : ℕ) (d : Entry K V) → i < length es → test (get_or es i d).key ≡ true → holds_by test (drop (suc i) es) ≡ false → read_by test es ≡ Some (get_or es i d).value
+  read-at [] i d lt h out = absurd (omega arith)
+  read-at (e ∷ es) zero d lt h out = grind (arith, h, out)
+  read-at (e ∷ es) (suc i) d lt h out = grind (arith, held_at es i d (omega arith) h, read-at es i d (omega arith) h out)
+
+  -- the value at the last place is what is read, which says of a place what `read_back` says of a walk
+  pub read-last : (es : List (Entry K V)) (i : ℕ) (d : Entry K V) → LastBy test es i → Some (get_or es i d).value ≡ read_by test es
+  read-last es i d l =
+      let n : i + 1 ≡ suc i = omega arith in
+      sym (read-at es i d l.within (l.here d) (ap (λ m. holds_by test (drop m es)) (sym n) ∙ l.after))
